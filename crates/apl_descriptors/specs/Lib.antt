@@ -1,0 +1,5 @@
+pub mod Named
+pub mod NodeDescriptor
+pub mod Flags
+pub mod PowerDescriptor
+pub mod SimpleDescriptor

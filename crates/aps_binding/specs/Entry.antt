@@ -1,0 +1,49 @@
+-- Entries of the binding table (2.2.8.2.1), and when two are the same.
+use Prim.Native.Nat.{ℕ}
+use mathlib.Core.Bool.{Bool, true, false, _&&_}
+use mathlib.Core.List.{List, [], _∷_}
+use lib.Dec.{eqb}
+use Rattle.zigbee_types.specs.Addresses.{ieeeOf, groupOf}
+use Rattle.zigbee_types.specs.declared.IeeeAddress.{IeeeAddress}
+use Rattle.zigbee_types.specs.declared.GroupAddress.{GroupAddress}
+use Rattle.aps_binding.specs.declared.binding.Binding.{Binding}
+
+-- the two modes of a destination (2.4.3.2.2)
+abbrev pub GROUP : ℕ
+GROUP = 0x01
+
+abbrev pub DEVICE : ℕ
+DEVICE = 0x03
+
+-- an endpoint's cluster is bound to a group
+unfoldable pub groupBinding : ℕ → ℕ → GroupAddress → Binding
+groupBinding endpoint cluster g =
+    record { «dst_ieee» = ieeeOf 0; «cluster_id» = cluster; «src_endpoint» = endpoint; «dst_addr_mode» = GROUP; «dst_group» = g; «dst_endpoint» = 0 }
+
+-- an endpoint's cluster is bound to an endpoint of a device
+unfoldable pub deviceBinding : ℕ → ℕ → IeeeAddress → ℕ → Binding
+deviceBinding endpoint cluster a to =
+    record { «dst_ieee» = a; «cluster_id» = cluster; «src_endpoint» = endpoint; «dst_addr_mode» = DEVICE; «dst_group» = groupOf 0; «dst_endpoint» = to }
+
+-- what an unused place holds: the group binding of zeros (document 01)
+unfoldable pub unused : Binding
+unused = groupBinding 0 0 (groupOf 0)
+
+-- does an entry route traffic of this endpoint and cluster?
+unfoldable pub routes : Binding → ℕ → ℕ → Bool
+routes b endpoint cluster = eqb (b .«src_endpoint») endpoint && eqb (b .«cluster_id») cluster
+
+-- what tells entries apart
+unfoldable pub key : Binding → List ℕ
+key b = b .«cluster_id» ∷ b .«src_endpoint» ∷ b .«dst_ieee» .0 ∷ b .«dst_endpoint» ∷ b .«dst_group» .0 ∷ b .«dst_addr_mode» ∷ []
+
+-- are two lists of numbers one?
+unfoldable pub alike : List ℕ → List ℕ → Bool
+alike [] [] = true
+alike [] (y ∷ ys) = false
+alike (x ∷ xs) [] = false
+alike (x ∷ xs) (y ∷ ys) = eqb x y && alike xs ys
+
+-- two entries are the same if they have one key
+unfoldable pub same : Binding → Binding → Bool
+same a b = alike (key a) (key b)

@@ -1,0 +1,2 @@
+// The binding table (2.2.8.2.1).
+pub mod binding;

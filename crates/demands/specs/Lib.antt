@@ -1,0 +1,2 @@
+pub mod OurDevice
+pub mod CounterCases

@@ -1,0 +1,56 @@
+-- Matching (document 01, "Matching"; 2.4.4.2.7): which endpoints a match request finds.
+use Prim.Native.Nat.{ℕ}
+use mathlib.Core.Bool.{Bool, _||_, _&&_, cond}
+use mathlib.Core.List.{List, map}
+use lib.Dec.{eqb, leb}
+use lib.ListN.{length}
+use Rattle.zigbee_types.specs.Outcome.{Outcome, answer, refusal}
+use Rattle.zigbee_types.specs.Layout.{behind, entriesAt}
+use Rattle.zigbee_types.specs.Lists.{any, filter}
+use Rattle.apl_descriptors.specs.SimpleDescriptor.{Endpoint}
+use Rattle.zdo_requests.specs.declared.descriptor.MatchDescReq.{MatchDescReq}
+use Rattle.zdo_device.specs.Tables.{Pools, used, goodDevice, endpointOf}
+use Rattle.zdo_device.specs.declared.descriptor.EndpointDescriptor.{EndpointDescriptor}
+use Rattle.zdo_device.specs.declared.descriptor.DeviceDescriptorConfig.{DeviceDescriptorConfig}
+
+-- what a match request looks for
+pub record Wanted : Type 0 where
+  pub profile : ℕ
+  pub inputs : List ℕ
+  pub outputs : List ℕ
+
+-- a request's lists stand in its payload, two bytes for each cluster
+unfoldable pub wanted : MatchDescReq → List ℕ → Wanted
+wanted q payload =
+    record { profile = q .«profile_id»; inputs = entriesAt 2 payload (q .«input_clusters»); outputs = entriesAt 2 payload (q .«output_clusters») }
+
+-- 0xFFFF stands for every profile
+unfoldable pub profileMatches : ℕ → ℕ → Bool
+profileMatches asked own = eqb asked 0xFFFF || eqb asked own
+
+-- is a cluster asked for among one's own?
+unfoldable pub shared : List ℕ → List ℕ → Bool
+shared asked own = any (λ cluster. any (eqb cluster) own) asked
+
+-- the profile matches, and a requested input is among the inputs or a requested output among the outputs
+unfoldable pub matches : Wanted → Endpoint → Bool
+matches w e = profileMatches (w .profile) (e .«profile_id») && (shared (w .inputs) (e .«input_clusters») || shared (w .outputs) (e .«output_clusters»))
+
+-- the numbers of the matching endpoints, in table order
+unfoldable pub matchList : Wanted → List Endpoint → List ℕ
+matchList w endpoints = map (λ e. e .endpoint) (filter (matches w) endpoints)
+
+-- refusal 3 is given for others: a request's lists lie within the payload
+unfoldable pub goodPlaces : MatchDescReq → List ℕ → Bool
+goodPlaces q payload = leb (behind 2 (q .«input_clusters»)) (length payload) && leb (behind 2 (q .«output_clusters»)) (length payload)
+
+-- matching over records, by whether they are good: refusal 1, refusal 3, or the list
+unfoldable pub matchedRecords : Bool → Pools → List EndpointDescriptor → MatchDescReq → List ℕ → Outcome (List ℕ)
+matchedRecords good p records q payload =
+    cond good
+    (cond (goodPlaces q payload) (answer (matchList (wanted q payload) (map (endpointOf p) records))) (refusal 3))
+    (refusal 1)
+
+-- `matching_endpoints`
+unfoldable pub matchingEndpoints : Pools → DeviceDescriptorConfig → MatchDescReq → List ℕ → Outcome (List ℕ)
+matchingEndpoints p d q payload = matchedRecords (goodDevice p d) p (used d) q payload

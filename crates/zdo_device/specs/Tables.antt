@@ -1,0 +1,71 @@
+-- Device tables: endpoint records, and the two pools of clusters that they point into (document 01, "Device tables and
+-- sizes").
+use Prim.Native.Nat.{ℕ, _+_}
+use mathlib.Core.Bool.{Bool, true, false, _&&_, cond}
+use mathlib.Core.List.{List, []}
+use mathlib.Core.Option.{Option}
+use lib.Dec.{eqb, leb}
+use lib.ListN.{length, take}
+use Rattle.zigbee_types.specs.Lists.{part, all, find, option}
+use Rattle.apl_descriptors.specs.SimpleDescriptor.{Endpoint}
+use Rattle.zdo_device.specs.declared.descriptor.EndpointDescriptor.{EndpointDescriptor}
+use Rattle.zdo_device.specs.declared.descriptor.DeviceDescriptorConfig.{DeviceDescriptorConfig}
+use Rattle.zdo_device.specs.declared.descriptor.Side.{Side}
+use Rattle.zdo_device.specs.declared.descriptor.Side.the-variants.{Input, Output}
+
+-- the two lent pools of clusters
+pub record Pools : Type 0 where
+  pub inputs : List ℕ
+  pub outputs : List ℕ
+
+-- ---- records
+
+-- the records in use; those behind the count are free
+unfoldable pub used : DeviceDescriptorConfig → List EndpointDescriptor
+used d = take (d .«endpoint_count») (d .endpoints)
+
+-- `endpoint`: the first record answers for a number
+unfoldable pub endpointRecord : DeviceDescriptorConfig → ℕ → Option EndpointDescriptor
+endpointRecord d n = find (λ e. eqb (e .endpoint) n) (used d)
+
+-- `supports_endpoint`: is there one?
+unfoldable pub supportsEndpoint : DeviceDescriptorConfig → ℕ → Bool
+supportsEndpoint d n = option false (λ e. true) (endpointRecord d n)
+
+-- ---- when tables are good; refusal 1 is given for others
+
+-- a record's two parts lie within their pools
+unfoldable pub recordFits : Pools → EndpointDescriptor → Bool
+recordFits p e = leb (e .«input_start» + e .«input_count») (length (p .inputs)) && leb (e .«output_start» + e .«output_count») (length (p .outputs))
+
+-- at most 32 records, at most 512 clusters in each pool, and each record within its pools
+unfoldable pub goodRecords : Pools → List EndpointDescriptor → Bool
+goodRecords p records = leb (length records) 32 && leb (length (p .inputs)) 512 && leb (length (p .outputs)) 512 && all (recordFits p) records
+
+-- the same of a device: its count is at most 32, and the records in use are good
+unfoldable pub goodDevice : Pools → DeviceDescriptorConfig → Bool
+goodDevice p d = leb (d .«endpoint_count») 32 && goodRecords p (used d)
+
+-- ---- records resolved to their clusters
+
+-- a record, with its parts of the pools
+unfoldable pub endpointOf : Pools → EndpointDescriptor → Endpoint
+endpointOf p e =
+    record {
+      endpoint = e .endpoint;
+      «profile_id» = e .«profile_id»;
+      «device_id» = e .«device_id»;
+      «device_version» = e .«device_version»;
+      «input_clusters» = part (e .«input_start») (e .«input_count») (p .inputs);
+      «output_clusters» = part (e .«output_start») (e .«output_count») (p .outputs);
+    }
+
+-- an endpoint's clusters of one side
+unfoldable pub clustersOf : Side → Endpoint → List ℕ
+clustersOf Input e = e .«input_clusters»
+clustersOf Output e = e .«output_clusters»
+
+-- the part of a pool that an endpoint number has: that of its first record; none where there is no record, or the tables
+-- are not good
+unfoldable pub endpointClusters : Pools → DeviceDescriptorConfig → Side → ℕ → List ℕ
+endpointClusters p d s n = cond (goodDevice p d) (option [] (λ e. clustersOf s (endpointOf p e)) (endpointRecord d n)) []

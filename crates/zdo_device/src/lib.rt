@@ -1,0 +1,2 @@
+// The device's tables, and the replies made from them.
+pub mod descriptor;

@@ -1,0 +1,107 @@
+-- The discovery requests: what a host with good tables replies (document 01, "Binding and dispatch"). No binding table comes
+-- into it.
+use Prim.Native.Nat.{ℕ}
+use mathlib.Core.Bool.{Bool, true, false, cond}
+use mathlib.Core.List.{List}
+use lib.Dec.{eqb}
+use Rattle.zigbee_types.specs.Outcome.{Outcome, refusal, andThen, fitted}
+use Rattle.zigbee_types.specs.Addresses.{ieeeOf, shortOf, sameIeee, sameShort}
+use Rattle.zigbee_types.specs.Statuses.{INV-REQUESTTYPE, DEVICE-NOT-FOUND}
+use Rattle.zigbee_types.specs.declared.ShortAddress.{ShortAddress}
+use Rattle.apl_descriptors.specs.declared.node_descriptor.LogicalType.{LogicalType}
+use Rattle.apl_descriptors.specs.declared.node_descriptor.LogicalType.the-variants.{Coordinator, Router, EndDevice, Reserved}
+use Rattle.zdo_requests.specs.Clusters.{NWK-ADDR-REQ, IEEE-ADDR-REQ, NODE-DESC-REQ, POWER-DESC-REQ, SIMPLE-DESC-REQ, ACTIVE-EP-REQ, MATCH-DESC-REQ}
+use Rattle.zdo_requests.specs.Requests.{nwkAddrReq, ieeeAddrReq, addrOfInterestReq, simpleDescReq, matchDescReq}
+use Rattle.zdo_requests.specs.declared.descriptor.NwkAddrReq.{NwkAddrReq}
+use Rattle.zdo_requests.specs.declared.descriptor.IeeeAddrReq.{IeeeAddrReq}
+use Rattle.zdo_requests.specs.declared.descriptor.AddrOfInterestReq.{AddrOfInterestReq}
+use Rattle.zdo_requests.specs.declared.descriptor.SimpleDescReq.{SimpleDescReq}
+use Rattle.zdo_requests.specs.declared.descriptor.MatchDescReq.{MatchDescReq}
+use Rattle.zdo_replies.specs.Replies.{nodeDescRsp, powerDescRsp, descriptorRspError, listRsp, emptyRsp, matchDescRspError, addrRsp, addrRspSingle}
+use Rattle.zdo_device.specs.Matching.{wanted, matchList}
+use Rattle.zdo_device.specs.TableReplies.{activeRsp, simpleRsp}
+use Rattle.zdo_dispatcher.specs.Host.{Host, Asked, resolved}
+
+-- ---- addresses
+
+-- a request about us, by whether its type is single and whether it is extended; any other type is INV_REQUESTTYPE with our
+-- two addresses
+unfoldable pub addressAs : Bool → Bool → Host → ℕ → Outcome (List ℕ)
+addressAs true extended h seq = addrRsp seq (h .«ieee_addr») (h .«nwk_addr») false
+addressAs false true h seq = addrRsp seq (h .«ieee_addr») (h .«nwk_addr») true
+addressAs false false h seq = addrRspSingle seq INV-REQUESTTYPE (h .«ieee_addr») (h .«nwk_addr»)
+
+-- type 0 is single, type 1 extended (2.4.3.1.1)
+unfoldable pub ourAddress : Host → ℕ → ℕ → Outcome (List ℕ)
+ourAddress h seq type = addressAs (eqb type 0x00) (eqb type 0x01) h seq
+
+-- of another device: DEVICE_NOT_FOUND, the address asked for, and the other all ones
+unfoldable pub onNwkAddr : Host → NwkAddrReq → Outcome (List ℕ)
+onNwkAddr h q =
+    cond (sameIeee (q .«ieee_addr») (h .«ieee_addr»))
+    (ourAddress h (q .seq) (q .«request_type»))
+    (addrRspSingle (q .seq) DEVICE-NOT-FOUND (q .«ieee_addr») (shortOf 0xFFFF))
+
+unfoldable pub onIeeeAddr : Host → IeeeAddrReq → Outcome (List ℕ)
+onIeeeAddr h q =
+    cond (sameShort (q .«nwk_addr_of_interest») (h .«nwk_addr»))
+    (ourAddress h (q .seq) (q .«request_type»))
+    (addrRspSingle (q .seq) DEVICE-NOT-FOUND (ieeeOf 0xFFFF_FFFF_FFFF_FFFF) (q .«nwk_addr_of_interest»))
+
+-- ---- descriptors and lists
+
+-- the status for another short address: a router or coordinator does not know the device, any other type cannot be asked. A
+-- reserved type is neither, whatever it is cut to.
+unfoldable pub notOurs : LogicalType → ℕ
+notOurs Coordinator = DEVICE-NOT-FOUND
+notOurs Router = DEVICE-NOT-FOUND
+notOurs EndDevice = INV-REQUESTTYPE
+notOurs (Reserved n) = INV-REQUESTTYPE
+
+-- a request about our short address, and one about another, which gets that status
+unfoldable pub about : Host → ShortAddress → Outcome (List ℕ) → (ℕ → Outcome (List ℕ)) → Outcome (List ℕ)
+about h address ours error = cond (sameShort address (h .«nwk_addr»)) ours (error (notOurs (h .device .node .«logical_type»)))
+
+unfoldable pub onNode : Host → AddrOfInterestReq → Outcome (List ℕ)
+onNode h q =
+    let address = q .«nwk_addr_of_interest» in
+    about h address (nodeDescRsp (q .seq) address (h .device .node)) (λ status. descriptorRspError (q .seq) status address)
+
+unfoldable pub onPower : Host → AddrOfInterestReq → Outcome (List ℕ)
+onPower h q =
+    let address = q .«nwk_addr_of_interest» in
+    about h address (powerDescRsp (q .seq) address (h .device .power)) (λ status. descriptorRspError (q .seq) status address)
+
+unfoldable pub onSimple : Host → SimpleDescReq → Outcome (List ℕ)
+onSimple h q =
+    let address = q .«nwk_addr_of_interest» in
+    about h address (simpleRsp (q .seq) address (h .pools) (h .device) (q .endpoint)) (λ status. emptyRsp (q .seq) status address)
+
+unfoldable pub onActive : Host → AddrOfInterestReq → Outcome (List ℕ)
+onActive h q =
+    let address = q .«nwk_addr_of_interest» in
+    about h address (activeRsp (q .seq) address (h .device)) (λ status. emptyRsp (q .seq) status address)
+
+-- the list of a match reply is whole
+unfoldable pub onMatch : Host → List ℕ → MatchDescReq → Outcome (List ℕ)
+onMatch h payload q =
+    let address = q .«nwk_addr_of_interest» in
+    about h address (listRsp (q .seq) address (matchList (wanted q payload) (resolved h))) (λ status. matchDescRspError (q .seq) status)
+
+-- ---- by the cluster
+
+-- refusal 2: a cluster that is no discovery request's
+unfoldable pub discovery : Host → ℕ → List ℕ → Outcome (List ℕ)
+discovery h cluster payload =
+    cond (eqb cluster NWK-ADDR-REQ) (andThen (nwkAddrReq payload) (onNwkAddr h))
+    (cond (eqb cluster IEEE-ADDR-REQ) (andThen (ieeeAddrReq payload) (onIeeeAddr h))
+    (cond (eqb cluster NODE-DESC-REQ) (andThen (addrOfInterestReq payload) (onNode h))
+    (cond (eqb cluster POWER-DESC-REQ) (andThen (addrOfInterestReq payload) (onPower h))
+    (cond (eqb cluster SIMPLE-DESC-REQ) (andThen (simpleDescReq payload) (onSimple h))
+    (cond (eqb cluster ACTIVE-EP-REQ) (andThen (addrOfInterestReq payload) (onActive h))
+    (cond (eqb cluster MATCH-DESC-REQ) (andThen (matchDescReq payload) (onMatch h payload))
+    (refusal 2)))))))
+
+-- the reply, or refusal 5 where there is no room for it
+unfoldable pub discovered : Host → Asked → Outcome (List ℕ)
+discovered h a = fitted (a .room) (discovery h (a .cluster) (a .payload))

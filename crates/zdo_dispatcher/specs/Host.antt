@@ -1,0 +1,30 @@
+-- Who answers, and what is asked.
+use Prim.Native.Nat.{ℕ}
+use mathlib.Core.Bool.{Bool}
+use mathlib.Core.List.{List, map}
+use Rattle.zigbee_types.specs.declared.IeeeAddress.{IeeeAddress}
+use Rattle.zigbee_types.specs.declared.ShortAddress.{ShortAddress}
+use Rattle.apl_descriptors.specs.SimpleDescriptor.{Endpoint}
+use Rattle.zdo_device.specs.Tables.{Pools, used, goodDevice, endpointOf}
+use Rattle.zdo_device.specs.declared.descriptor.DeviceDescriptorConfig.{DeviceDescriptorConfig}
+
+-- our device, with its two addresses and its pools
+pub record Host : Type 0 where
+  pub device : DeviceDescriptorConfig
+  pub «ieee_addr» : IeeeAddress
+  pub «nwk_addr» : ShortAddress
+  pub pools : Pools
+
+-- a request's cluster and payload, and the length of the buffer for the reply
+pub record Asked : Type 0 where
+  pub cluster : ℕ
+  pub payload : List ℕ
+  pub room : ℕ
+
+-- refusal 1 is given for others: the device's tables are good
+unfoldable pub goodHost : Host → Bool
+goodHost h = goodDevice (h .pools) (h .device)
+
+-- our endpoints, with their clusters
+unfoldable pub resolved : Host → List Endpoint
+resolved h = map (endpointOf (h .pools)) (used (h .device))

@@ -1,0 +1,169 @@
+-- The readers of replies (document 01, "Reply readers"). A reply that is shorter than its layout needs is refusal 3, and
+-- bytes behind it are ignored.
+use Prim.Native.Nat.{ℕ, _+_, _-_, _/_}
+use mathlib.Core.Bool.{Bool, true, false, _&&_}
+use mathlib.Core.List.{List, [], _∷_}
+use lib.Dec.{eqb, leb}
+use lib.ListN.{length, drop}
+use Rattle.zigbee_types.specs.Lists.{part}
+use Rattle.zigbee_types.specs.Outcome.{Outcome, answer, andThen, mapped, needing}
+use Rattle.zigbee_types.specs.Bytes.{numberAt}
+use Rattle.zigbee_types.specs.Layout.{parsed, counted, behind}
+use Rattle.zigbee_types.specs.Addresses.{ieeeOf, shortOf}
+use Rattle.zigbee_types.specs.Statuses.{SUCCESS}
+use Rattle.zigbee_types.specs.declared.Places.{Places}
+use Rattle.apl_descriptors.specs.NodeDescriptor.{nodeDescriptorIn, stackRevision}
+use Rattle.apl_descriptors.specs.PowerDescriptor.{powerDescriptorIn}
+use Rattle.apl_descriptors.specs.SimpleDescriptor.{simpleDescriptorIn}
+use Rattle.apl_descriptors.specs.declared.simple_descriptor.SimpleDescriptorFields.{SimpleDescriptorFields}
+use Rattle.zdo_readers.specs.declared.descriptor.NodeDescRsp.{NodeDescRsp}
+use Rattle.zdo_readers.specs.declared.descriptor.OptionServerMask.{OptionServerMask}
+use Rattle.zdo_readers.specs.declared.descriptor.OptionServerMask.the-variants as mask
+use Rattle.zdo_readers.specs.declared.descriptor.OptionStackRevision.{OptionStackRevision}
+use Rattle.zdo_readers.specs.declared.descriptor.OptionStackRevision.the-variants as revision
+use Rattle.zdo_readers.specs.declared.readers.RspHeader.{RspHeader}
+use Rattle.zdo_readers.specs.declared.readers.NodeRsp.{NodeRsp}
+use Rattle.zdo_readers.specs.declared.readers.OptionNodeDescriptor.{OptionNodeDescriptor}
+use Rattle.zdo_readers.specs.declared.readers.OptionNodeDescriptor.the-variants as node
+use Rattle.zdo_readers.specs.declared.readers.PowerRsp.{PowerRsp}
+use Rattle.zdo_readers.specs.declared.readers.OptionPowerDescriptor.{OptionPowerDescriptor}
+use Rattle.zdo_readers.specs.declared.readers.OptionPowerDescriptor.the-variants as power
+use Rattle.zdo_readers.specs.declared.readers.SimpleRsp.{SimpleRsp}
+use Rattle.zdo_readers.specs.declared.readers.OptionSimpleDescriptor.{OptionSimpleDescriptor}
+use Rattle.zdo_readers.specs.declared.readers.OptionSimpleDescriptor.the-variants as simple
+use Rattle.zdo_readers.specs.declared.readers.ListRsp.{ListRsp}
+use Rattle.zdo_readers.specs.declared.readers.MatchRsp.{MatchRsp}
+use Rattle.zdo_readers.specs.declared.readers.MatchRsp.the-variants.{Matched, Failed}
+use Rattle.zdo_readers.specs.declared.readers.AddrRsp.{AddrRsp}
+use Rattle.zdo_readers.specs.declared.readers.OptionAssociated.{OptionAssociated}
+use Rattle.zdo_readers.specs.declared.readers.OptionAssociated.the-variants as associated
+use Rattle.zdo_readers.specs.declared.readers.StatusRsp.{StatusRsp}
+
+-- what most replies begin with: seq, status, the address of interest; 4 bytes
+unfoldable pub headerIn : List ℕ → Outcome RspHeader
+headerIn = parsed (1 ∷ 1 ∷ 2 ∷ []) (λ field. record { seq = field 0; status = field 1; «nwk_addr_of_interest» = shortOf (field 2) })
+
+-- ---- node and power
+
+-- is the status SUCCESS: then the node descriptor stands from byte 4 on; else there is none
+unfoldable pub nodeIn : Bool → List ℕ → Outcome OptionNodeDescriptor
+nodeIn true reply = mapped node.Some (nodeDescriptorIn (drop 4 reply))
+nodeIn false reply = answer node.None
+
+-- 2.4.4.2.3
+unfoldable pub nodeRspIn : List ℕ → Outcome NodeRsp
+nodeRspIn reply = andThen (headerIn reply) (λ h. mapped (λ d. record { header = h; descriptor = d }) (nodeIn (eqb (h .status) SUCCESS) reply))
+
+-- is the status SUCCESS: then the power descriptor stands from byte 4 on, with its refusals; else there is none
+unfoldable pub powerIn : Bool → List ℕ → Outcome OptionPowerDescriptor
+powerIn true reply = mapped power.Some (powerDescriptorIn (drop 4 reply))
+powerIn false reply = answer power.None
+
+-- 2.4.4.2.4
+unfoldable pub powerRspIn : List ℕ → Outcome PowerRsp
+powerRspIn reply = andThen (headerIn reply) (λ h. mapped (λ d. record { header = h; descriptor = d }) (powerIn (eqb (h .status) SUCCESS) reply))
+
+-- ---- the server mask alone
+
+-- is there one: it stands at byte 12
+unfoldable pub serverMaskIn : Bool → List ℕ → OptionServerMask
+serverMaskIn true reply = mask.Some (numberAt 2 reply 12)
+serverMaskIn false reply = mask.None
+
+-- `parse_node_desc_rsp`: needs 4 bytes, and gives the server mask only with SUCCESS and 14 bytes
+unfoldable pub nodeDescRspIn : List ℕ → Outcome NodeDescRsp
+nodeDescRspIn reply =
+    mapped
+    (λ h.
+    record {
+      seq = h .seq;
+      status = h .status;
+      «nwk_addr_of_interest» = h .«nwk_addr_of_interest»;
+      «server_mask» = serverMaskIn (eqb (h .status) SUCCESS && leb 14 (length reply)) reply;
+    })
+    (headerIn reply)
+
+-- `stack_revision`: that of the server mask, where there is one
+unfoldable pub stackRevisionOf : OptionServerMask → OptionStackRevision
+stackRevisionOf (mask.Some m) = revision.Some (stackRevision m)
+stackRevisionOf mask.None = revision.None
+
+-- ---- active and match
+
+-- 2.4.4.2.6: the list is counted at byte 4, one byte for each endpoint, and must be whole
+unfoldable pub listRspIn : List ℕ → Outcome ListRsp
+listRspIn reply =
+    let list = counted reply 4 in
+    andThen (headerIn reply) (λ h. needing (behind 1 list) reply (record { header = h; endpoints = list }))
+
+-- is the status SUCCESS: then it is read as an active reply; else as three bytes, of which the third is ignored
+unfoldable pub matchRspInAs : Bool → List ℕ → Outcome MatchRsp
+matchRspInAs true reply = mapped Matched (listRspIn reply)
+matchRspInAs false reply = parsed (1 ∷ 1 ∷ 1 ∷ []) (λ field. Failed (field 0) (field 1)) reply
+
+-- 2.4.4.2.7: the status is byte 1
+unfoldable pub matchRspIn : List ℕ → Outcome MatchRsp
+matchRspIn reply = matchRspInAs (eqb (numberAt 1 reply 1) SUCCESS) reply
+
+-- ---- simple
+
+-- places in bytes that stand at a place of the reply, counted from the start of the reply
+unfoldable pub moved : ℕ → Places → Places
+moved at p = record { start = at + p .start; count = p .count }
+
+-- a descriptor that stands at a place of the reply
+unfoldable pub movedFields : ℕ → SimpleDescriptorFields → SimpleDescriptorFields
+movedFields at d =
+    record {
+      endpoint = d .endpoint;
+      «profile_id» = d .«profile_id»;
+      «device_id» = d .«device_id»;
+      «device_version» = d .«device_version»;
+      «input_clusters» = moved at (d .«input_clusters»);
+      «output_clusters» = moved at (d .«output_clusters»);
+    }
+
+-- a descriptor of length 0 is none; another, which begins at byte 5, is read within its length
+unfoldable pub simpleWithin : List ℕ → Outcome OptionSimpleDescriptor
+simpleWithin [] = answer simple.None
+simpleWithin (b ∷ bs) = mapped (λ d. simple.Some (movedFields 5 d)) (simpleDescriptorIn (b ∷ bs))
+
+-- the length is byte 4, and the reply must reach as far
+unfoldable pub simpleIn : List ℕ → Outcome OptionSimpleDescriptor
+simpleIn reply =
+    let len = numberAt 1 reply 4 in
+    andThen (needing (5 + len) reply (part 5 len reply)) simpleWithin
+
+-- 2.4.4.2.5, of any status
+unfoldable pub simpleRspIn : List ℕ → Outcome SimpleRsp
+simpleRspIn reply = andThen (headerIn reply) (λ h. mapped (λ d. record { header = h; descriptor = d }) (simpleIn reply))
+
+-- ---- addresses
+
+-- is it extended: then it goes on with the number of devices and the index; their addresses stand from byte 14 on, two bytes
+-- each, up to the reply's end
+unfoldable pub associatedIn : Bool → List ℕ → OptionAssociated
+associatedIn true reply =
+    associated.Some
+    (record { «num_assoc_dev» = numberAt 1 reply 12; «start_index» = numberAt 1 reply 13; devices = record { start = 14; count = (length reply - 14) / 2 } })
+associatedIn false reply = associated.None
+
+-- 2.4.4.2.1 and 2.4.4.2.2: seq, status, IEEE address, short address; extended with 14 bytes or more and SUCCESS
+unfoldable pub addrRspIn : List ℕ → Outcome AddrRsp
+addrRspIn reply =
+    parsed (1 ∷ 1 ∷ 8 ∷ 2 ∷ [])
+    (λ field.
+    record {
+      seq = field 0;
+      status = field 1;
+      «ieee_addr» = ieeeOf (field 2);
+      «nwk_addr» = shortOf (field 3);
+      associated = associatedIn (eqb (field 1) SUCCESS && leb 14 (length reply)) reply;
+    })
+    reply
+
+-- ---- bind, unbind and leave
+
+-- 2.4.4.3.2, 2.4.4.3.3 and 2.4.4.4.5: seq, status
+unfoldable pub statusRspIn : List ℕ → Outcome StatusRsp
+statusRspIn = parsed (1 ∷ 1 ∷ []) (λ field. record { seq = field 0; status = field 1 })

@@ -1,0 +1,36 @@
+-- The clusters of the ten requests (2.4.3), by the Rust's names.
+use Prim.Native.Nat.{ℕ, _+_}
+
+abbrev pub NWK-ADDR-REQ : ℕ
+NWK-ADDR-REQ = 0x0000
+
+abbrev pub IEEE-ADDR-REQ : ℕ
+IEEE-ADDR-REQ = 0x0001
+
+abbrev pub NODE-DESC-REQ : ℕ
+NODE-DESC-REQ = 0x0002
+
+abbrev pub POWER-DESC-REQ : ℕ
+POWER-DESC-REQ = 0x0003
+
+abbrev pub SIMPLE-DESC-REQ : ℕ
+SIMPLE-DESC-REQ = 0x0004
+
+abbrev pub ACTIVE-EP-REQ : ℕ
+ACTIVE-EP-REQ = 0x0005
+
+abbrev pub MATCH-DESC-REQ : ℕ
+MATCH-DESC-REQ = 0x0006
+
+abbrev pub BIND-REQ : ℕ
+BIND-REQ = 0x0021
+
+abbrev pub UNBIND-REQ : ℕ
+UNBIND-REQ = 0x0022
+
+abbrev pub MGMT-LEAVE-REQ : ℕ
+MGMT-LEAVE-REQ = 0x0034
+
+-- the cluster of the reply to a request (2.4.4; document 01, "Binding and dispatch")
+abbrev pub replyCluster : ℕ → ℕ
+replyCluster cluster = cluster + 0x8000

@@ -1,0 +1,105 @@
+-- The ten requests, from bytes to fields (document 01, "Payloads"; 2.4.3). Each is a table of widths, shorter payloads are
+-- refusal 3, and extra bytes behind are ignored.
+use Prim.Native.Nat.{ℕ}
+use mathlib.Core.Bool.{Bool, true, false, cond}
+use mathlib.Core.List.{List, [], _∷_}
+use lib.Dec.{eqb}
+use Rattle.zigbee_types.specs.Outcome.{Outcome, answer, refusal, mapped, needing}
+use Rattle.zigbee_types.specs.Bytes.{numberAt, bitAt}
+use Rattle.zigbee_types.specs.Layout.{byte, laid, fieldOf, parsed, counted, behind}
+use Rattle.zigbee_types.specs.Addresses.{short, ieeeOf, shortOf, groupOf}
+use Rattle.zigbee_types.specs.declared.Places.{Places}
+use Rattle.zigbee_types.specs.declared.ShortAddress.{ShortAddress}
+use Rattle.aps_binding.specs.Entry.{GROUP, DEVICE, groupBinding, deviceBinding}
+use Rattle.aps_binding.specs.declared.binding.Binding.{Binding}
+use Rattle.zdo_requests.specs.declared.descriptor.NwkAddrReq.{NwkAddrReq}
+use Rattle.zdo_requests.specs.declared.descriptor.IeeeAddrReq.{IeeeAddrReq}
+use Rattle.zdo_requests.specs.declared.descriptor.AddrOfInterestReq.{AddrOfInterestReq}
+use Rattle.zdo_requests.specs.declared.descriptor.SimpleDescReq.{SimpleDescReq}
+use Rattle.zdo_requests.specs.declared.descriptor.MatchDescReq.{MatchDescReq}
+use Rattle.zdo_requests.specs.declared.descriptor.BindReq.{BindReq}
+use Rattle.zdo_requests.specs.declared.descriptor.BindReqDestination.{BindReqDestination}
+use Rattle.zdo_requests.specs.declared.descriptor.BindReqDestination.the-variants.{Group, Device}
+use Rattle.zdo_requests.specs.declared.descriptor.MgmtLeaveReq.{MgmtLeaveReq}
+use Rattle.zdo_requests.specs.declared.descriptor.OptionIeeeAddress.{OptionIeeeAddress}
+use Rattle.zdo_requests.specs.declared.descriptor.OptionIeeeAddress.the-variants.{Some, None}
+
+-- 2.4.3.1.1: seq, IEEE address, type; StartIndex is not read
+unfoldable pub nwkAddrReq : List ℕ → Outcome NwkAddrReq
+nwkAddrReq = parsed (1 ∷ 8 ∷ 1 ∷ []) (λ field. record { seq = field 0; «ieee_addr» = ieeeOf (field 1); «request_type» = field 2 })
+
+-- 2.4.3.1.2: seq, short address, type; StartIndex is not read
+unfoldable pub ieeeAddrReq : List ℕ → Outcome IeeeAddrReq
+ieeeAddrReq = parsed (1 ∷ 2 ∷ 1 ∷ []) (λ field. record { seq = field 0; «nwk_addr_of_interest» = shortOf (field 1); «request_type» = field 2 })
+
+-- 2.4.3.1.3, 2.4.3.1.4 and 2.4.3.1.6, node, power and active: seq, short address
+unfoldable pub addrOfInterestReq : List ℕ → Outcome AddrOfInterestReq
+addrOfInterestReq = parsed (1 ∷ 2 ∷ []) (λ field. record { seq = field 0; «nwk_addr_of_interest» = shortOf (field 1) })
+
+-- the address alone, as `parse_addr_of_interest` gives it
+unfoldable pub addrOfInterest : List ℕ → Outcome ShortAddress
+addrOfInterest payload = mapped (λ q. q .«nwk_addr_of_interest») (addrOfInterestReq payload)
+
+-- 2.4.3.1.5: the same, then the endpoint
+unfoldable pub simpleDescReq : List ℕ → Outcome SimpleDescReq
+simpleDescReq =
+    parsed (1 ∷ 2 ∷ 1 ∷ []) (λ field. record { seq = field 0; «nwk_addr_of_interest» = shortOf (field 1); endpoint = field 2 })
+
+-- a match request's first fields, then its lists
+unfoldable pub matchFields : (ℕ → ℕ) → Places → Places → MatchDescReq
+matchFields field inputs outputs =
+    record {
+      seq = field 0;
+      «nwk_addr_of_interest» = shortOf (field 1);
+      «profile_id» = field 2;
+      «input_clusters» = inputs;
+      «output_clusters» = outputs;
+    }
+
+-- 2.4.3.1.7: seq, short address, profile; then inputs, counted at byte 5, and outputs behind them, two bytes for each
+-- cluster; refusal 3 where the payload ends before the outputs do
+unfoldable pub matchDescReq : List ℕ → Outcome MatchDescReq
+matchDescReq payload =
+    let inputs = counted payload 5 in
+    let outputs = counted payload (behind 2 inputs) in
+    needing (behind 2 outputs) payload (matchFields (fieldOf (1 ∷ 2 ∷ 2 ∷ []) payload) inputs outputs)
+
+-- a bind request's first fields, then its destination
+unfoldable pub bindFields : (ℕ → ℕ) → BindReqDestination → BindReq
+bindFields field destination =
+    record { seq = field 0; «src_address» = ieeeOf (field 1); «src_endpoint» = field 2; «cluster_id» = field 3; destination = destination }
+
+-- seq, source address, endpoint, cluster, mode; then, by whether the mode is group and whether it is device: a group
+-- address, 15 bytes in all; an IEEE address and an endpoint, 22 bytes in all; any other mode is refusal 3
+unfoldable pub bindReqAs : Bool → Bool → List ℕ → Outcome BindReq
+bindReqAs true device payload = parsed (1 ∷ 8 ∷ 1 ∷ 2 ∷ 1 ∷ 2 ∷ []) (λ field. bindFields field (Group (groupOf (field 5)))) payload
+bindReqAs false true payload = parsed (1 ∷ 8 ∷ 1 ∷ 2 ∷ 1 ∷ 8 ∷ 1 ∷ []) (λ field. bindFields field (Device (ieeeOf (field 5)) (field 6))) payload
+bindReqAs false false payload = refusal 3
+
+-- 2.4.3.2.2 and 2.4.3.2.3, bind and unbind: the mode is byte 12; a payload that ends before it reads as mode 0
+unfoldable pub bindReq : List ℕ → Outcome BindReq
+bindReq payload = bindReqAs (eqb (numberAt 1 payload 12) GROUP) (eqb (numberAt 1 payload 12) DEVICE) payload
+
+-- the entry of an endpoint, a cluster and a destination
+unfoldable pub bindingTo : ℕ → ℕ → BindReqDestination → Binding
+bindingTo endpoint cluster (Group g) = groupBinding endpoint cluster g
+bindingTo endpoint cluster (Device a to) = deviceBinding endpoint cluster a to
+
+-- the entry that a bind or unbind request names
+unfoldable pub bindingOf : BindReq → Binding
+bindingOf q = bindingTo (q .«src_endpoint») (q .«cluster_id») (q .destination)
+
+-- an IEEE address of zero means none
+unfoldable pub optionIeee : ℕ → OptionIeeeAddress
+optionIeee n = cond (eqb n 0) None (Some (ieeeOf n))
+
+-- 2.4.3.3.5: seq, IEEE address, options: bit 6 children, bit 7 rejoin
+unfoldable pub mgmtLeaveReq : List ℕ → Outcome MgmtLeaveReq
+mgmtLeaveReq =
+    parsed (1 ∷ 8 ∷ 1 ∷ [])
+    (λ field.
+    record { seq = field 0; «device_address» = optionIeee (field 1); «remove_children» = bitAt 6 (field 2); rejoin = bitAt 7 (field 2) })
+
+-- 2.4.3.1.3, written: seq, short address
+unfoldable pub nodeDescReq : ℕ → ShortAddress → Outcome (List ℕ)
+nodeDescReq seq address = answer (laid (byte seq ∷ short address ∷ []))

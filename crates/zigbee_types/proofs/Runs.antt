@@ -1,0 +1,93 @@
+-- Runs of fields, for whoever reads or puts one field behind the other: a run is made of its first field and of the run behind
+-- it, and a whole run is what a parser or a writer owes. Assumes nothing.
+use Prim.Native.Nat.{ℕ, _+_, _≤_, _<_}
+use native.Mathlib.Omega.{arith}
+use mathlib.Core.Path.{_≡_, refl}
+use mathlib.Core.List.{List, [], _∷_, _++_}
+use lib.ListN.{length, getD, drop}
+use lib.Seq.{sets, sets-eq}
+use borrow.Author.Tests.{le-leb, lt-leb}
+use Rattle.zigbee_types.specs.Outcome.{answer, refusal, needing, mapped, fitted, written, Wrote}
+use Rattle.zigbee_types.specs.Bytes.{FieldRead, FieldPut}
+use Rattle.zigbee_types.specs.Layout.{Field, laid, size, fieldsAt, parsed}
+use Rattle.zigbee_types.specs.FieldLaws.{widths}
+use Rattle.zigbee_types.proofs.Fields.{sets-behind}
+use Rattle.zigbee_types.proofs.Layouts.{laid-counted}
+
+-- ---- reading
+
+-- fields of these widths, one behind the other, have these values
+pub record RunRead (ws bytes : List ℕ) (at : ℕ) (values : List ℕ) : Type 0 where
+  pub told : values ≡ fieldsAt ws bytes at
+
+-- no fields, no values
+pub run-read-none : {bytes : List ℕ} {at : ℕ} → RunRead [] bytes at []
+unfolding fieldsAt
+run-read-none = record { told = refl }
+
+-- a field and the run behind it
+pub run-read-more :
+    {w v at m : ℕ} {ws vs bytes : List ℕ} → FieldRead w bytes at v m → RunRead ws bytes m vs → RunRead (w ∷ ws) bytes at (v ∷ vs)
+unfolding fieldsAt
+run-read-more p q = record { told = rw (p .told, q .told, p .moved) }
+
+-- so a parser answers with their values
+pub run-parses :
+    {A : Type 0} {ws bytes vs : List ℕ} (make : (ℕ → ℕ) → A)
+    → RunRead ws bytes 0 vs
+    → size ws ≤ length bytes
+    → answer (make (λ i. getD vs i 0)) ≡ parsed ws make bytes
+unfolding parsed needing
+run-parses make p h = simp (le-leb _ _ h, p .told)
+
+-- and refuses where there are too few bytes
+pub run-short :
+    {A : Type 0} (ws bytes : List ℕ) (make : (ℕ → ℕ) → A) → length bytes < size ws → refusal 3 ≡ parsed ws make bytes
+unfolding parsed needing
+run-short ws bytes make h = rw (lt-leb _ _ h)
+
+-- ---- putting
+
+-- fields were put one behind the other: the place behind them, and the buffer with them in it
+pub record RunPut (fs : List Field) (before : List ℕ) (at next : ℕ) (after : List ℕ) : Type 0 where
+  pub moved : next ≡ at + size (widths fs)
+  pub left : after ≡ sets before at (laid fs)
+
+-- no fields leave the buffer as it was
+pub run-put-none : {s : List ℕ} {at : ℕ} → RunPut [] s at at s
+unfolding laid size
+run-put-none = record { moved = omega arith; left = refl }
+
+-- a field and the run behind it
+pub run-put-more :
+    {w x at m n : ℕ} {fs : List Field} {s t u : List ℕ}
+    → FieldPut w x s at m t
+    → RunPut fs t m n u
+    → RunPut (record { width = w; value = x } ∷ fs) s at n u
+unfolding laid size
+run-put-more p q =
+    record {
+      moved = omega (arith, p .moved, q .moved);
+      left = rw (q .left, p .left, p .moved, sets-behind);
+    }
+
+-- so the fields are written, where there is room for them
+pub run-writes :
+    {fs : List Field} {s t : List ℕ} {n : ℕ}
+    → RunPut fs s 0 n t
+    → size (widths fs) ≤ length s
+    → Wrote (answer (laid fs)) s (answer n) t
+unfolding mapped fitted written
+run-writes {fs} {s} {t} {n} p h =
+    let counted : 0 + length (laid fs) ≡ length (laid fs) = omega arith in
+    let room : length (laid fs) ≤ length s = rw (laid-counted fs) h in
+    let told : n ≡ length (laid fs) = omega (arith, p .moved, laid-counted fs) in
+    let behind : sets s 0 (laid fs) ≡ laid fs ++ drop (length (laid fs)) s = rw counted at (sets-eq (laid fs) s 0 (omega arith)) in
+    record { said = rw (le-leb _ _ room, told); left = rw (le-leb _ _ room, p .left) behind }
+
+-- and refused where there is none
+pub run-full : (fs : List Field) (s : List ℕ) → length s < size (widths fs) → Wrote (answer (laid fs)) s (refusal 5) s
+unfolding mapped fitted written
+run-full fs s h =
+    let full : length s < length (laid fs) = rw (laid-counted fs) h in
+    record { said = rw (lt-leb _ _ full); left = rw (lt-leb _ _ full) }

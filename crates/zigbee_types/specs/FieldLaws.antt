@@ -1,0 +1,68 @@
+-- What holds of bytes, of numbers and of tables of fields, as statements. A term of each stands in proofs/.
+use Prim.Native.Nat.{ℕ, _+_, _%_, _^_, _≤_, _<_}
+use mathlib.Core.Path.{_≡_}
+use mathlib.Core.Bool.{Bool, true}
+use mathlib.Core.List.{List, _++_, map}
+use lib.Dec.{ltb}
+use lib.ListN.{length, getD}
+use Rattle.zigbee_types.specs.Outcome.{answer}
+use Rattle.zigbee_types.specs.Lists.{all}
+use Rattle.zigbee_types.specs.Bytes.{le, number, FieldRead, FieldPut}
+use Rattle.zigbee_types.specs.Layout.{Field, laid, cut, size, fieldsAt, parsed}
+
+-- is every number of a list a byte?
+abbrev pub areBytes : List ℕ → Bool
+areBytes = all (λ b. ltb b 256)
+
+-- the widths of fields
+abbrev pub widths : List Field → List ℕ
+widths = map (λ f. f .width)
+
+-- ---- numbers
+
+-- k bytes of a number are k
+abbrev pub BytesCounted : Type 0
+BytesCounted = (k x : ℕ) → length (le k x) ≡ k
+
+-- each of them is a byte
+abbrev pub BytesBounded : Type 0
+BytesBounded = (k x : ℕ) → areBytes (le k x) ≡ true
+
+-- bytes stand for a number that has no more bytes than they are
+abbrev pub NumberBounded : Type 0
+NumberBounded = (bytes : List ℕ) → areBytes bytes ≡ true → number bytes < 256 ^ length bytes
+
+-- a number that is written and read is what it was, cut to the width
+abbrev pub NumberReadsBack : Type 0
+NumberReadsBack = (k x : ℕ) → number (le k x) ≡ x % 256 ^ k
+
+-- bytes that are read and written are what they were
+abbrev pub BytesWriteBack : Type 0
+BytesWriteBack = (bytes : List ℕ) → areBytes bytes ≡ true → le (length bytes) (number bytes) ≡ bytes
+
+-- ---- a buffer
+
+-- what was put at a place with room for it reads back there, cut to its width, with the same place behind it
+abbrev pub PutReadsBack : Type 0
+PutReadsBack =
+    (k x at next : ℕ) (before after : List ℕ)
+    → at + k ≤ length before
+    → FieldPut k x before at next after
+    → FieldRead k after at (x % 256 ^ k) next
+
+-- ---- tables of fields
+
+-- what is laid is as long as its widths say
+abbrev pub LaidCounted : Type 0
+LaidCounted = (fs : List Field) → length (laid fs) ≡ size (widths fs)
+
+-- what is laid reads back cut to its widths, at any place and whatever stands around it
+abbrev pub LaidReadsBack : Type 0
+LaidReadsBack =
+    (front rest : List ℕ) (fs : List Field) → fieldsAt (widths fs) (front ++ laid fs ++ rest) (length front) ≡ map cut fs
+
+-- so a parser that goes by these widths answers with the cut values, whatever stands behind
+abbrev pub LaidParses : Type 1
+LaidParses =
+    (A : Type 0) (make : (ℕ → ℕ) → A) (fs : List Field) (rest : List ℕ)
+    → parsed (widths fs) make (laid fs ++ rest) ≡ answer (make (λ i. getD (map cut fs) i 0))

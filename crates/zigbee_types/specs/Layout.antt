@@ -1,0 +1,65 @@
+-- A frame as a table: the width of each field in bytes, beside its value. Reading goes by the table of the widths.
+use Prim.Native.Nat.{ℕ, _+_, _*_, _%_, _^_}
+use mathlib.Core.List.{List, [], _∷_, _++_}
+use lib.ListN.{getD, replicate}
+use Rattle.zigbee_types.specs.Outcome.{Outcome, needing}
+use Rattle.zigbee_types.specs.Bytes.{le, numberAt}
+use Rattle.zigbee_types.specs.declared.Places.{Places}
+
+-- ---- writing
+
+-- one field: its width in bytes, and its value
+pub record Field : Type 0 where
+  pub width : ℕ
+  pub value : ℕ
+
+-- a field of one byte
+abbrev pub byte : ℕ → Field
+byte x = record { width = 1; value = x }
+
+-- a field of two bytes
+abbrev pub word : ℕ → Field
+word x = record { width = 2; value = x }
+
+-- the bytes of fields, one field after the other
+unfoldable pub laid : List Field → List ℕ
+laid [] = []
+laid (f ∷ fs) = le (f .width) (f .value) ++ laid fs
+
+-- a field's value, cut to its width
+unfoldable pub cut : Field → ℕ
+cut f = f .value % 256 ^ f .width
+
+-- ---- reading
+
+-- how many bytes fields of these widths take
+unfoldable pub size : List ℕ → ℕ
+size [] = 0
+size (w ∷ ws) = w + size ws
+
+-- the numbers in fields of these widths, from a place on
+unfoldable pub fieldsAt : List ℕ → List ℕ → ℕ → List ℕ
+fieldsAt [] bytes at = []
+fieldsAt (w ∷ ws) bytes at = numberAt w bytes at ∷ fieldsAt ws bytes (at + w)
+
+-- field i of a frame that begins with fields of these widths, counted from 0
+abbrev pub fieldOf : List ℕ → List ℕ → ℕ → ℕ
+fieldOf widths bytes i = getD (fieldsAt widths bytes 0) i 0
+
+-- what is made of a frame's fields; refusal 3 where the frame is shorter than they are
+unfoldable pub parsed : {A : Type 0} → List ℕ → ((ℕ → ℕ) → A) → List ℕ → Outcome A
+parsed widths make bytes = needing (size widths) bytes (make (fieldOf widths bytes))
+
+-- ---- lists in a frame
+
+-- the list whose count is the byte at a place: it stands behind that byte
+unfoldable pub counted : List ℕ → ℕ → Places
+counted bytes at = record { start = at + 1; count = numberAt 1 bytes at }
+
+-- the place behind a list whose entries have w bytes each
+unfoldable pub behind : ℕ → Places → ℕ
+behind w p = p .start + w * p .count
+
+-- the entries, of w bytes each
+unfoldable pub entriesAt : ℕ → List ℕ → Places → List ℕ
+entriesAt w bytes p = fieldsAt (replicate (p .count) w) bytes (p .start)

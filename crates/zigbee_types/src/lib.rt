@@ -1,0 +1,45 @@
+// What every layer shares: addresses, the places of a list, and refusals. (The Rust's crate of this name is not shown;
+// the names are those that its users write.)
+pub mod byte;
+
+ghost use mathlib.Core.Path.{_≡_};
+ghost use Rattle.zigbee_types.specs.Refusals.{refusalNumber};
+
+// A 64-bit extended address.
+pub struct IeeeAddress(pub u64);
+
+// A 16-bit network address.
+pub struct ShortAddress(pub u16);
+
+// A 16-bit group address.
+pub struct GroupAddress(pub u16);
+
+// Where a list stands in a payload: its first byte, and how many entries it has.
+pub struct Places {
+    pub start: usize,
+    pub count: usize,
+}
+
+// Why a call was refused (document 01, "Refusal numbers").
+pub enum Refusal {
+    BadTables,
+    UnknownCluster,
+    Malformed,
+    TooManyClusters,
+    ShortBuffer,
+}
+
+impl Refusal {
+    // The number by which a refusal is told (document 01, "Refusal numbers").
+    pub fn number(self) -> u8
+        ensures { λ r. ⌜ r ≡ refusalNumber self ⌝ }
+    {
+        match self {
+            Refusal::BadTables => 1,
+            Refusal::UnknownCluster => 2,
+            Refusal::Malformed => 3,
+            Refusal::TooManyClusters => 4,
+            Refusal::ShortBuffer => 5,
+        }
+    }
+}
