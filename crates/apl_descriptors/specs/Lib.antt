@@ -3,3 +3,4 @@ pub mod NodeDescriptor
 pub mod Flags
 pub mod PowerDescriptor
 pub mod SimpleDescriptor
+pub mod Bits

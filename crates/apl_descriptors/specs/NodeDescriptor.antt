@@ -42,18 +42,18 @@ defaultNode =
 -- ---- writing
 
 -- byte 0: the type in bits 0 to 2, complex in bit 3, user in bit 4 (2.3.2.3.1 to 2.3.2.3.3)
-unfoldable pub typeByte : NodeDescriptorConfig → ℕ
-typeByte n = typeNumber (n .«logical_type») + 8 * bit (n .«complex_descriptor_available») + 16 * bit (n .«user_descriptor_available»)
+unfoldable pub nodeByte0 : NodeDescriptorConfig → ℕ
+nodeByte0 n = typeNumber (n .«logical_type») + 8 * bit (n .«complex_descriptor_available») + 16 * bit (n .«user_descriptor_available»)
 
 -- byte 1: the APS flags, always zero, and the band in bits 3 to 7 (2.3.2.3.4, 2.3.2.3.5)
-unfoldable pub bandByte : NodeDescriptorConfig → ℕ
-bandByte n = 8 * (n .«frequency_band» % 32)
+unfoldable pub nodeByte1 : NodeDescriptorConfig → ℕ
+nodeByte1 n = 8 * (n .«frequency_band» % 32)
 
 -- 2.3.2.3: the fields in the order of transmission
 unfoldable pub nodeDescriptor : NodeDescriptorConfig → List Field
 nodeDescriptor n =
-    byte (typeByte n)
-    ∷ byte (bandByte n)
+    byte (nodeByte0 n)
+    ∷ byte (nodeByte1 n)
     ∷ byte (n .«mac_capability_flags»)
     ∷ word (n .«manufacturer_code»)
     ∷ byte (n .«maximum_buffer_size»)

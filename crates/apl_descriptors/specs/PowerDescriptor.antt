@@ -56,14 +56,23 @@ sourceBitmap xs = bit (any (bitAt 0) xs) + 2 * bit (any (bitAt 1) xs) + 4 * bit 
 
 -- ---- writing
 
--- byte 0: mode low, sources high; byte 1: source low, level high
+-- byte 0: the mode low, the sources high (2.3.2.4.1, 2.3.2.4.2)
+unfoldable pub powerByte0 : PowerDescriptorConfig → ℕ
+powerByte0 p = modeBits (p .«current_power_mode») + 16 * (p .«available_power_sources» % 16)
+
+-- byte 1: the current source low, its level high (2.3.2.4.3, 2.3.2.4.4)
+unfoldable pub powerByte1 : PowerDescriptorConfig → ℕ
+powerByte1 p = sourceBits (p .«current_power_source») + 16 * levelBits (p .«current_power_source_level»)
+
+-- 2.3.2.4: the two bytes
 unfoldable pub powerDescriptor : PowerDescriptorConfig → List Field
-powerDescriptor p =
-    byte (modeBits (p .«current_power_mode») + 16 * (p .«available_power_sources» % 16))
-    ∷ byte (sourceBits (p .«current_power_source») + 16 * levelBits (p .«current_power_source_level»))
-    ∷ []
+powerDescriptor p = byte (powerByte0 p) ∷ byte (powerByte1 p) ∷ []
 
 -- ---- reading
+
+-- two bytes
+unfoldable pub powerWidths : List ℕ
+powerWidths = 1 ∷ 1 ∷ []
 
 -- what a descriptor that was read says; each accessor of 002 gives one of these
 unfoldable pub powerFields : NodePowerDescriptor → PowerDescriptorConfig
@@ -91,5 +100,5 @@ usable available source = (eqb source 1 || eqb source 2 || eqb source 4) && comm
 unfoldable pub powerDescriptorIn : List ℕ → Outcome NodePowerDescriptor
 powerDescriptorIn bytes =
     andThen
-    (parsed (1 ∷ 1 ∷ []) (λ field. record { «byte0» = field 0; «byte1» = field 1 }) bytes)
+    (parsed powerWidths (λ field. record { «byte0» = field 0; «byte1» = field 1 }) bytes)
     (λ d. cond (usable (d .«byte0» / 16) (d .«byte1» % 16)) (answer d) (refusal 3))

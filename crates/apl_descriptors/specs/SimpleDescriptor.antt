@@ -38,8 +38,8 @@ simpleWritten e = cond (leb (length (e .«input_clusters») + length (e .«outpu
 -- ---- reading
 
 -- its first fields, then its lists
-unfoldable pub simpleFields : (ℕ → ℕ) → Places → Places → SimpleDescriptorFields
-simpleFields field inputs outputs =
+unfoldable pub simpleOf : (ℕ → ℕ) → Places → Places → SimpleDescriptorFields
+simpleOf field inputs outputs =
     record {
       endpoint = field 0;
       «profile_id» = field 1;
@@ -55,4 +55,4 @@ unfoldable pub simpleDescriptorIn : List ℕ → Outcome SimpleDescriptorFields
 simpleDescriptorIn bytes =
     let inputs = counted bytes 6 in
     let outputs = counted bytes (behind 2 inputs) in
-    needing (behind 2 outputs) bytes (simpleFields (fieldOf (1 ∷ 2 ∷ 2 ∷ 1 ∷ []) bytes) inputs outputs)
+    needing (behind 2 outputs) bytes (simpleOf (fieldOf (1 ∷ 2 ∷ 2 ∷ 1 ∷ []) bytes) inputs outputs)

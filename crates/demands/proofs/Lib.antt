@@ -1,1 +1,2 @@
 pub mod CounterCases
+pub mod Frames

@@ -1,107 +1,25 @@
--- Document 01's counter-cases K1 to K11 and the sample of the program `answer`, as entries of one table under one claim. What
--- the definitions say stands on one side, and document 01's bytes and numbers, as literals, on the other.
-use Prim.Native.Nat.{ℕ, min}
-use mathlib.Core.Path.{_≡_}
+-- Document 01's counter-cases K1 to K11, and the sample of the program `answer` as far as it speaks of definitions. What the
+-- definitions say stands on one side, and document 01's bytes and numbers, as literals, on the other.
+use Prim.Native.Nat.{ℕ}
 use mathlib.Core.List.{List, [], _∷_, _++_, map}
-use lib.ListN.{length, getD, take, replicate}
-use Rattle.zigbee_types.specs.Outcome.{Outcome, answer, refusal, andThen, mapped, fitted, begun}
+use lib.ListN.{length, take, replicate}
+use Rattle.zigbee_types.specs.Outcome.{Outcome, answer, refusal, andThen, mapped, fitted, begunLength, begun}
 use Rattle.zigbee_types.specs.Layout.{laid}
-use Rattle.apl_descriptors.specs.NodeDescriptor.{defaultNode, nodeDescriptor, nodeFields, stackRevision}
+use Rattle.apl_descriptors.specs.NodeDescriptor.{defaultNode, nodeDescriptor}
 use Rattle.apl_descriptors.specs.PowerDescriptor.{modeBits, sourceBits, levelBits, powerDescriptor, powerDescriptorIn, powerFields}
 use Rattle.apl_descriptors.specs.declared.descriptor.PowerDescriptorConfig.{PowerDescriptorConfig}
 use Rattle.aps_binding.specs.Table.{emptyTable}
-use Rattle.zdo_requests.specs.Requests.{matchDescReq}
 use Rattle.zdo_replies.specs.Replies.{nodeDescRsp}
 use Rattle.zdo_readers.specs.Readers.{nodeDescRspIn, stackRevisionOf}
 use Rattle.zdo_readers.specs.declared.descriptor.OptionStackRevision.{OptionStackRevision}
 use Rattle.zdo_readers.specs.declared.descriptor.OptionStackRevision.the-variants.{Some, None}
-use Rattle.zdo_device.specs.Matching.{matchingEndpoints}
-use Rattle.zdo_device.specs.TableReplies.{simpleDescRsp}
 use Rattle.zdo_device.specs.Tables.{Pools}
+use Rattle.zdo_device.specs.TableReplies.{simpleDescRsp}
 use Rattle.zdo_device.specs.declared.descriptor.DeviceDescriptorConfig.{DeviceDescriptorConfig}
 use Rattle.zdo_dispatcher.specs.Host.{Asked}
-use Rattle.zdo_dispatcher.specs.Answers.{Answer, reply, leave, answered, run, runTable}
+use Rattle.zdo_dispatcher.specs.Answers.{answered, run, runTable}
 use Rattle.demands.specs.OurDevice.{ourNode, ourPower, ourPools, ourDescriptors, ours}
-
--- ---- how a case asks, and how an outcome is shown
-
--- a match request's list, over our device
-abbrev pub found : List ℕ → Outcome (List ℕ)
-found payload = andThen (matchDescReq payload) (λ q. matchingEndpoints ourPools ourDescriptors q payload)
-
--- our device with one endpoint, of n inputs and no outputs
-abbrev pub crowded : ℕ → DeviceDescriptorConfig
-crowded n =
-    record {
-      node = ourNode;
-      power = ourPower;
-      endpoints = replicate 32
-          (record { endpoint = 1; «device_version» = 0; «profile_id» = 0x0104; «device_id» = 0x0302; «input_start» = 0; «input_count» = n; «output_start» = 0; «output_count» = 0 });
-      «endpoint_count» = 1;
-    }
-
--- the four fields of a power descriptor as numbers
-abbrev pub powerNumbers : PowerDescriptorConfig → List ℕ
-powerNumbers p =
-    modeBits (p .«current_power_mode»)
-    ∷ p .«available_power_sources»
-    ∷ sourceBits (p .«current_power_source»)
-    ∷ levelBits (p .«current_power_source_level»)
-    ∷ []
-
-abbrev pub revisions : OptionStackRevision → List ℕ
-revisions (Some r) = r ∷ []
-revisions None = []
-
--- a request to our device, with a buffer of 128 bytes
-abbrev pub asked : ℕ → List ℕ → Asked
-asked cluster payload = record { cluster = cluster; payload = payload; room = 128 }
-
--- a reply's cluster, then its bytes
-abbrev pub heard : Outcome Answer → Outcome (List ℕ)
-heard (answer (reply cluster bytes t)) = answer (cluster ∷ bytes)
-heard (answer (leave q)) = answer []
-heard (refusal n) = refusal n
-
--- byte 1 of a reply
-abbrev pub statusOf : Outcome Answer → ℕ
-statusOf (answer (reply cluster bytes t)) = getD bytes 1 0
-statusOf (answer (leave q)) = 0
-statusOf (refusal n) = 0
-
--- ---- inputs
-
--- K10's request, to group 0x0003; the same to group 0x0004; and one to endpoint 1 of a device
-abbrev pub bindA : List ℕ
-bindA = 0x0A ∷ 0x08 ∷ 0x07 ∷ 0x06 ∷ 0x05 ∷ 0x04 ∷ 0x03 ∷ 0x02 ∷ 0x01 ∷ 0x01 ∷ 0x02 ∷ 0x04 ∷ 0x01 ∷ 0x03 ∷ 0x00 ∷ []
-
-abbrev pub bindB : List ℕ
-bindB = 0x0A ∷ 0x08 ∷ 0x07 ∷ 0x06 ∷ 0x05 ∷ 0x04 ∷ 0x03 ∷ 0x02 ∷ 0x01 ∷ 0x01 ∷ 0x02 ∷ 0x04 ∷ 0x01 ∷ 0x04 ∷ 0x00 ∷ []
-
-abbrev pub bindC : List ℕ
-bindC =
-    0x0A ∷ 0x08 ∷ 0x07 ∷ 0x06 ∷ 0x05 ∷ 0x04 ∷ 0x03 ∷ 0x02 ∷ 0x01 ∷ 0x01 ∷ 0x02 ∷ 0x04 ∷ 0x03
-    ∷ 0xF1 ∷ 0xF2 ∷ 0xF3 ∷ 0xF4 ∷ 0xF5 ∷ 0xF6 ∷ 0xF7 ∷ 0xF8 ∷ 0x01 ∷ []
-
--- bind A, bind B, unbind A, bind C, unbind B
-abbrev pub exchange : List Asked
-exchange = asked 0x0021 bindA ∷ asked 0x0021 bindB ∷ asked 0x0022 bindA ∷ asked 0x0021 bindC ∷ asked 0x0022 bindB ∷ []
-
--- the four lines of the sample
-abbrev pub sample : List Asked
-sample =
-    asked 0x0005 (0x07 ∷ 0x34 ∷ 0x12 ∷ [])
-    ∷ asked 0x0006 (0x09 ∷ 0x34 ∷ 0x12 ∷ 0x04 ∷ 0x01 ∷ 0x01 ∷ 0x02 ∷ 0x04 ∷ 0x00 ∷ [])
-    ∷ asked 0x0021 bindA
-    ∷ asked 0x0007 (0x00 ∷ [])
-    ∷ []
-
--- ---- the table
-
--- what the definitions say, and what document 01 says
-pub record Case : Type 0 where
-  pub says : List (Outcome (List ℕ))
-  pub expected : List (Outcome (List ℕ))
+use Rattle.demands.specs.Cases.{Case, asked, found, heard, statusOf, bindA, bindB, bindC}
 
 -- K1: a node reply with room, and in a buffer of 16 bytes
 unfoldable pub K1 : Case
@@ -113,6 +31,11 @@ K1 =
           ∷ refusal 5
           ∷ [];
     }
+
+-- a stack revision, where there is one
+abbrev pub revisions : OptionStackRevision → List ℕ
+revisions (Some r) = r ∷ []
+revisions None = []
 
 -- K2: its stack revision
 unfoldable pub K2 : Case
@@ -127,6 +50,15 @@ K2 =
 -- K3: byte 0 of the default
 unfoldable pub K3 : Case
 K3 = record { says = answer (take 1 (laid (nodeDescriptor defaultNode))) ∷ []; expected = answer (0x01 ∷ []) ∷ [] }
+
+-- the four fields of a power descriptor as numbers
+abbrev pub powerNumbers : PowerDescriptorConfig → List ℕ
+powerNumbers p =
+    modeBits (p .«current_power_mode»)
+    ∷ p .«available_power_sources»
+    ∷ sourceBits (p .«current_power_source»)
+    ∷ levelBits (p .«current_power_source_level»)
+    ∷ []
 
 -- K4: power bytes that are read, as mode, sources, source and level; and two that are refused. Our device writes the first.
 unfoldable pub K4 : Case
@@ -151,15 +83,28 @@ K5 =
           ∷ [];
     }
 
--- K6: the length of a simple reply with 28 clusters, and one with 29
+-- our device with one endpoint, of so many inputs and outputs
+abbrev pub crowded : ℕ → ℕ → DeviceDescriptorConfig
+crowded inputs outputs =
+    record {
+      node = ourNode;
+      power = ourPower;
+      endpoints = replicate 32
+          (record { endpoint = 1; «device_version» = 0; «profile_id» = 0x0104; «device_id» = 0x0302; «input_start» = 0; «input_count» = inputs; «output_start» = 0; «output_count» = outputs });
+      «endpoint_count» = 1;
+    }
+
+-- the length of its simple reply
+abbrev pub crowdedLength : ℕ → ℕ → Outcome (List ℕ)
+crowdedLength inputs outputs =
+    mapped (λ bytes. length bytes ∷ []) (simpleDescRsp 7 (ours .«nwk_addr») (record { inputs = replicate 29 0x0006; outputs = replicate 29 0x0019 }) (crowded inputs outputs) 1)
+
+-- K6: 28 clusters, on one side and on both; and 29, likewise
 unfoldable pub K6 : Case
 K6 =
     record {
-      says =
-          mapped (λ bytes. length bytes ∷ []) (simpleDescRsp 7 (ours .«nwk_addr») (record { inputs = replicate 29 0x0006; outputs = [] }) (crowded 28) 1)
-          ∷ mapped (λ bytes. length bytes ∷ []) (simpleDescRsp 7 (ours .«nwk_addr») (record { inputs = replicate 29 0x0006; outputs = [] }) (crowded 29) 1)
-          ∷ [];
-      expected = answer (69 ∷ []) ∷ refusal 4 ∷ [];
+      says = crowdedLength 28 0 ∷ crowdedLength 20 8 ∷ crowdedLength 29 0 ∷ crowdedLength 28 1 ∷ [];
+      expected = answer (69 ∷ []) ∷ answer (69 ∷ []) ∷ refusal 4 ∷ refusal 4 ∷ [];
     }
 
 -- K7: input 0x0402 of profile 0x0104 is endpoint 1's
@@ -170,14 +115,13 @@ K7 = record { says = found (0x09 ∷ 0x34 ∷ 0x12 ∷ 0x04 ∷ 0x01 ∷ 0x01 �
 unfoldable pub K8 : Case
 K8 = record { says = found (0x09 ∷ 0x34 ∷ 0x12 ∷ 0xFF ∷ 0xFF ∷ 0x00 ∷ 0x00 ∷ []) ∷ []; expected = answer [] ∷ [] }
 
--- K9: profile 0x0104 and input 0x0000 with a buffer of one byte: how many are written, then the buffer
+-- K9: profile 0x0104 and input 0x0000 with a buffer of one byte: how many are written, and the buffer then
 unfoldable pub K9 : Case
 K9 =
+    let o = found (0x09 ∷ 0x34 ∷ 0x12 ∷ 0x04 ∷ 0x01 ∷ 0x01 ∷ 0x00 ∷ 0x00 ∷ 0x00 ∷ []) in
     record {
-      says =
-          mapped (λ xs. min 1 (length xs) ∷ begun (0xEE ∷ []) (answer xs)) (found (0x09 ∷ 0x34 ∷ 0x12 ∷ 0x04 ∷ 0x01 ∷ 0x01 ∷ 0x00 ∷ 0x00 ∷ 0x00 ∷ []))
-          ∷ [];
-      expected = answer (1 ∷ 1 ∷ []) ∷ [];
+      says = mapped (λ n. n ∷ []) (begunLength (0xEE ∷ []) o) ∷ answer (begun (0xEE ∷ []) o) ∷ [];
+      expected = answer (1 ∷ []) ∷ answer (1 ∷ []) ∷ [];
     }
 
 -- K10: a bind, and 14 bytes of it
@@ -191,13 +135,29 @@ K10 =
       expected = answer (0x8021 ∷ 0x0A ∷ 0x00 ∷ []) ∷ refusal 3 ∷ [];
     }
 
--- K11: the statuses of bind A, bind B, unbind A, bind C, unbind B with limit 1, and with limit 2
+-- bind A, bind B, unbind A, bind C, unbind B
+abbrev pub exchange : List Asked
+exchange = asked 0x0021 bindA ∷ asked 0x0021 bindB ∷ asked 0x0022 bindA ∷ asked 0x0021 bindC ∷ asked 0x0022 bindB ∷ []
+
+-- K11: the statuses with limit 1, and with limit 2
 unfoldable pub K11 : Case
 K11 =
     record {
-      says = answer (map statusOf (run ours (emptyTable 1) exchange)) ∷ answer (map statusOf (run ours (emptyTable 2) exchange)) ∷ [];
-      expected = answer (0x00 ∷ 0x8C ∷ 0x00 ∷ 0x00 ∷ 0x88 ∷ []) ∷ answer (0x00 ∷ 0x00 ∷ 0x00 ∷ 0x00 ∷ 0x00 ∷ []) ∷ [];
+      says = map statusOf (run ours (emptyTable 1) exchange) ++ map statusOf (run ours (emptyTable 2) exchange);
+      expected =
+          answer (0x00 ∷ []) ∷ answer (0x8C ∷ []) ∷ answer (0x00 ∷ []) ∷ answer (0x00 ∷ []) ∷ answer (0x88 ∷ [])
+          ∷ answer (0x00 ∷ []) ∷ answer (0x00 ∷ []) ∷ answer (0x00 ∷ []) ∷ answer (0x00 ∷ []) ∷ answer (0x00 ∷ [])
+          ∷ [];
     }
+
+-- the four lines of the sample
+abbrev pub sample : List Asked
+sample =
+    asked 0x0005 (0x07 ∷ 0x34 ∷ 0x12 ∷ [])
+    ∷ asked 0x0006 (0x09 ∷ 0x34 ∷ 0x12 ∷ 0x04 ∷ 0x01 ∷ 0x01 ∷ 0x02 ∷ 0x04 ∷ 0x00 ∷ [])
+    ∷ asked 0x0021 bindA
+    ∷ asked 0x0007 (0x00 ∷ [])
+    ∷ []
 
 -- the sample: what the four lines come to, one after the other, and how many bindings there are then
 unfoldable pub Sample : Case
@@ -212,10 +172,3 @@ Sample =
           ∷ answer (1 ∷ [])
           ∷ [];
     }
-
-unfoldable pub cases : List Case
-cases = K1 ∷ K2 ∷ K3 ∷ K4 ∷ K5 ∷ K6 ∷ K7 ∷ K8 ∷ K9 ∷ K10 ∷ K11 ∷ Sample ∷ []
-
--- the claim: in each entry the definitions say what document 01 says
-unfoldable pub CounterCases : Type 0
-CounterCases = map (λ c. c .says) cases ≡ map (λ c. c .expected) cases

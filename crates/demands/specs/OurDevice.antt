@@ -1,7 +1,6 @@
 -- The device of document 01's counter-cases.
-use Prim.Native.Nat.{ℕ}
 use mathlib.Core.Bool.{false}
-use mathlib.Core.List.{List, [], _∷_, _++_}
+use mathlib.Core.List.{[], _∷_}
 use lib.ListN.{replicate}
 use Rattle.zigbee_types.specs.Addresses.{ieeeOf, shortOf}
 use Rattle.apl_descriptors.specs.declared.descriptor.NodeDescriptorConfig.{NodeDescriptorConfig}
@@ -74,6 +73,7 @@ endpoint2 =
 abbrev pub ourPools : Pools
 ourPools = record { inputs = 0x0000 ∷ 0x0402 ∷ 0x0000 ∷ 0x0500 ∷ []; outputs = 0x0019 ∷ [] }
 
+-- two records are in use, and the places behind them do not matter
 abbrev pub ourDescriptors : DeviceDescriptorConfig
 ourDescriptors = record { node = ourNode; power = ourPower; endpoints = endpoint1 ∷ endpoint2 ∷ replicate 30 endpoint2; «endpoint_count» = 2 }
 

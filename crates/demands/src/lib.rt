@@ -1,1 +1,1 @@
-// No code: the statements stand in specs/, their proofs in proofs/.
+// No code: what is claimed of the definitions stands in specs/, and the proofs in proofs/.

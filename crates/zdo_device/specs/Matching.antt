@@ -9,7 +9,7 @@ use Rattle.zigbee_types.specs.Layout.{behind, entriesAt}
 use Rattle.zigbee_types.specs.Lists.{any, filter}
 use Rattle.apl_descriptors.specs.SimpleDescriptor.{Endpoint}
 use Rattle.zdo_requests.specs.declared.descriptor.MatchDescReq.{MatchDescReq}
-use Rattle.zdo_device.specs.Tables.{Pools, used, goodDevice, endpointOf}
+use Rattle.zdo_device.specs.Tables.{Pools, used, goodRecords, resolvedIn}
 use Rattle.zdo_device.specs.declared.descriptor.EndpointDescriptor.{EndpointDescriptor}
 use Rattle.zdo_device.specs.declared.descriptor.DeviceDescriptorConfig.{DeviceDescriptorConfig}
 
@@ -44,13 +44,13 @@ matchList w endpoints = map (λ e. e .endpoint) (filter (matches w) endpoints)
 unfoldable pub goodPlaces : MatchDescReq → List ℕ → Bool
 goodPlaces q payload = leb (behind 2 (q .«input_clusters»)) (length payload) && leb (behind 2 (q .«output_clusters»)) (length payload)
 
--- matching over records, by whether they are good: refusal 1, refusal 3, or the list
-unfoldable pub matchedRecords : Bool → Pools → List EndpointDescriptor → MatchDescReq → List ℕ → Outcome (List ℕ)
-matchedRecords good p records q payload =
-    cond good
-    (cond (goodPlaces q payload) (answer (matchList (wanted q payload) (map (endpointOf p) records))) (refusal 3))
+-- matching over a run of records: refusal 1, then refusal 3, then the list
+unfoldable pub matchedRecords : Pools → List EndpointDescriptor → MatchDescReq → List ℕ → Outcome (List ℕ)
+matchedRecords p records q payload =
+    cond (goodRecords p records)
+    (cond (goodPlaces q payload) (answer (matchList (wanted q payload) (resolvedIn p records))) (refusal 3))
     (refusal 1)
 
--- `matching_endpoints`
+-- `matching_endpoints`: refusal 1 for a count above 32 too
 unfoldable pub matchingEndpoints : Pools → DeviceDescriptorConfig → MatchDescReq → List ℕ → Outcome (List ℕ)
-matchingEndpoints p d q payload = matchedRecords (goodDevice p d) p (used d) q payload
+matchingEndpoints p d q payload = cond (leb (d .«endpoint_count») 32) (matchedRecords p (used d) q payload) (refusal 1)

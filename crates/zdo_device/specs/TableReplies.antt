@@ -2,7 +2,6 @@
 use Prim.Native.Nat.{ℕ}
 use mathlib.Core.Bool.{cond}
 use mathlib.Core.List.{List, map}
-use mathlib.Core.Option.{Option}
 use lib.Dec.{leb}
 use Rattle.zigbee_types.specs.Outcome.{Outcome, refusal}
 use Rattle.zigbee_types.specs.Lists.{option}
@@ -10,20 +9,21 @@ use Rattle.zigbee_types.specs.Statuses.{NOT-ACTIVE}
 use Rattle.zigbee_types.specs.declared.ShortAddress.{ShortAddress}
 use Rattle.zdo_replies.specs.Replies.{listRsp, emptyRsp, describedRsp}
 use Rattle.zdo_device.specs.Tables.{Pools, used, endpointRecord, goodDevice, endpointOf}
+use Rattle.zdo_device.specs.declared.descriptor.EndpointDescriptor.{EndpointDescriptor}
 use Rattle.zdo_device.specs.declared.descriptor.DeviceDescriptorConfig.{DeviceDescriptorConfig}
 
--- 2.4.4.2.6: the numbers of the records in use, in table order
-unfoldable pub activeRsp : ℕ → ShortAddress → DeviceDescriptorConfig → Outcome (List ℕ)
-activeRsp seq address d = listRsp seq address (map (λ e. e .endpoint) (used d))
+-- 2.4.4.2.6: the numbers of a run of records, in table order
+unfoldable pub activeRspOf : ℕ → ShortAddress → List EndpointDescriptor → Outcome (List ℕ)
+activeRspOf seq address records = listRsp seq address (map (λ e. e .endpoint) records)
 
 -- `active_ep_rsp`: refusal 1 for a count above 32
 unfoldable pub activeEpRsp : ℕ → ShortAddress → DeviceDescriptorConfig → Outcome (List ℕ)
-activeEpRsp seq address d = cond (leb (d .«endpoint_count») 32) (activeRsp seq address d) (refusal 1)
+activeEpRsp seq address d = cond (leb (d .«endpoint_count») 32) (activeRspOf seq address (used d)) (refusal 1)
 
 -- 2.4.4.2.5: the simple descriptor of the first record with the number; NOT_ACTIVE and length 0 where there is none
-unfoldable pub simpleRsp : ℕ → ShortAddress → Pools → DeviceDescriptorConfig → ℕ → Outcome (List ℕ)
-simpleRsp seq address p d n = option (emptyRsp seq NOT-ACTIVE address) (λ e. describedRsp seq address (endpointOf p e)) (endpointRecord d n)
+unfoldable pub simpleRspOf : ℕ → ShortAddress → Pools → DeviceDescriptorConfig → ℕ → Outcome (List ℕ)
+simpleRspOf seq address p d n = option (emptyRsp seq NOT-ACTIVE address) (λ e. describedRsp seq address (endpointOf p e)) (endpointRecord d n)
 
 -- `simple_desc_rsp`: refusal 1 for tables that are not good
 unfoldable pub simpleDescRsp : ℕ → ShortAddress → Pools → DeviceDescriptorConfig → ℕ → Outcome (List ℕ)
-simpleDescRsp seq address p d n = cond (goodDevice p d) (simpleRsp seq address p d n) (refusal 1)
+simpleDescRsp seq address p d n = cond (goodDevice p d) (simpleRspOf seq address p d n) (refusal 1)

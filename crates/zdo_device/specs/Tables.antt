@@ -2,7 +2,7 @@
 -- sizes").
 use Prim.Native.Nat.{ℕ, _+_}
 use mathlib.Core.Bool.{Bool, true, false, _&&_, cond}
-use mathlib.Core.List.{List, []}
+use mathlib.Core.List.{List, [], map}
 use mathlib.Core.Option.{Option}
 use lib.Dec.{eqb, leb}
 use lib.ListN.{length, take}
@@ -59,6 +59,10 @@ endpointOf p e =
       «input_clusters» = part (e .«input_start») (e .«input_count») (p .inputs);
       «output_clusters» = part (e .«output_start») (e .«output_count») (p .outputs);
     }
+
+-- records, each with its parts of the pools
+unfoldable pub resolvedIn : Pools → List EndpointDescriptor → List Endpoint
+resolvedIn p records = map (endpointOf p) records
 
 -- an endpoint's clusters of one side
 unfoldable pub clustersOf : Side → Endpoint → List ℕ

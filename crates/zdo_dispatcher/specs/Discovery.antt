@@ -10,16 +10,17 @@ use Rattle.zigbee_types.specs.Statuses.{INV-REQUESTTYPE, DEVICE-NOT-FOUND}
 use Rattle.zigbee_types.specs.declared.ShortAddress.{ShortAddress}
 use Rattle.apl_descriptors.specs.declared.node_descriptor.LogicalType.{LogicalType}
 use Rattle.apl_descriptors.specs.declared.node_descriptor.LogicalType.the-variants.{Coordinator, Router, EndDevice, Reserved}
-use Rattle.zdo_requests.specs.Clusters.{NWK-ADDR-REQ, IEEE-ADDR-REQ, NODE-DESC-REQ, POWER-DESC-REQ, SIMPLE-DESC-REQ, ACTIVE-EP-REQ, MATCH-DESC-REQ}
-use Rattle.zdo_requests.specs.Requests.{nwkAddrReq, ieeeAddrReq, addrOfInterestReq, simpleDescReq, matchDescReq}
+use Rattle.zdo_requests.specs.Clusters.{NWK-ADDR-REQ, IEEE-ADDR-REQ, NODE-DESC-REQ, POWER-DESC-REQ, SIMPLE-DESC-REQ, ACTIVE-EP-REQ, MATCH-DESC-REQ, ADDR-REQUEST-SINGLE, ADDR-REQUEST-EXTENDED}
+use Rattle.zdo_requests.specs.Requests.{nwkAddrReqIn, ieeeAddrReqIn, addrOfInterestReqIn, simpleDescReqIn, matchDescReqIn}
 use Rattle.zdo_requests.specs.declared.descriptor.NwkAddrReq.{NwkAddrReq}
 use Rattle.zdo_requests.specs.declared.descriptor.IeeeAddrReq.{IeeeAddrReq}
 use Rattle.zdo_requests.specs.declared.descriptor.AddrOfInterestReq.{AddrOfInterestReq}
 use Rattle.zdo_requests.specs.declared.descriptor.SimpleDescReq.{SimpleDescReq}
 use Rattle.zdo_requests.specs.declared.descriptor.MatchDescReq.{MatchDescReq}
 use Rattle.zdo_replies.specs.Replies.{nodeDescRsp, powerDescRsp, descriptorRspError, listRsp, emptyRsp, matchDescRspError, addrRsp, addrRspSingle}
+use Rattle.zdo_device.specs.Tables.{used}
 use Rattle.zdo_device.specs.Matching.{wanted, matchList}
-use Rattle.zdo_device.specs.TableReplies.{activeRsp, simpleRsp}
+use Rattle.zdo_device.specs.TableReplies.{activeRspOf, simpleRspOf}
 use Rattle.zdo_dispatcher.specs.Host.{Host, Asked, resolved}
 
 -- ---- addresses
@@ -31,17 +32,18 @@ addressAs true extended h seq = addrRsp seq (h .«ieee_addr») (h .«nwk_addr»)
 addressAs false true h seq = addrRsp seq (h .«ieee_addr») (h .«nwk_addr») true
 addressAs false false h seq = addrRspSingle seq INV-REQUESTTYPE (h .«ieee_addr») (h .«nwk_addr»)
 
--- type 0 is single, type 1 extended (2.4.3.1.1)
+-- a request about us, by its type (2.4.3.1.1)
 unfoldable pub ourAddress : Host → ℕ → ℕ → Outcome (List ℕ)
-ourAddress h seq type = addressAs (eqb type 0x00) (eqb type 0x01) h seq
+ourAddress h seq type = addressAs (eqb type ADDR-REQUEST-SINGLE) (eqb type ADDR-REQUEST-EXTENDED) h seq
 
--- of another device: DEVICE_NOT_FOUND, the address asked for, and the other all ones
+-- 2.4.4.2.1; about another device: DEVICE_NOT_FOUND, the address asked for, and the other all ones
 unfoldable pub onNwkAddr : Host → NwkAddrReq → Outcome (List ℕ)
 onNwkAddr h q =
     cond (sameIeee (q .«ieee_addr») (h .«ieee_addr»))
     (ourAddress h (q .seq) (q .«request_type»))
     (addrRspSingle (q .seq) DEVICE-NOT-FOUND (q .«ieee_addr») (shortOf 0xFFFF))
 
+-- 2.4.4.2.2; about another device the same
 unfoldable pub onIeeeAddr : Host → IeeeAddrReq → Outcome (List ℕ)
 onIeeeAddr h q =
     cond (sameShort (q .«nwk_addr_of_interest») (h .«nwk_addr»))
@@ -62,27 +64,31 @@ notOurs (Reserved n) = INV-REQUESTTYPE
 unfoldable pub about : Host → ShortAddress → Outcome (List ℕ) → (ℕ → Outcome (List ℕ)) → Outcome (List ℕ)
 about h address ours error = cond (sameShort address (h .«nwk_addr»)) ours (error (notOurs (h .device .node .«logical_type»)))
 
+-- 2.4.4.2.3
 unfoldable pub onNode : Host → AddrOfInterestReq → Outcome (List ℕ)
 onNode h q =
     let address = q .«nwk_addr_of_interest» in
     about h address (nodeDescRsp (q .seq) address (h .device .node)) (λ status. descriptorRspError (q .seq) status address)
 
+-- 2.4.4.2.4
 unfoldable pub onPower : Host → AddrOfInterestReq → Outcome (List ℕ)
 onPower h q =
     let address = q .«nwk_addr_of_interest» in
     about h address (powerDescRsp (q .seq) address (h .device .power)) (λ status. descriptorRspError (q .seq) status address)
 
+-- 2.4.4.2.5
 unfoldable pub onSimple : Host → SimpleDescReq → Outcome (List ℕ)
 onSimple h q =
     let address = q .«nwk_addr_of_interest» in
-    about h address (simpleRsp (q .seq) address (h .pools) (h .device) (q .endpoint)) (λ status. emptyRsp (q .seq) status address)
+    about h address (simpleRspOf (q .seq) address (h .pools) (h .device) (q .endpoint)) (λ status. emptyRsp (q .seq) status address)
 
+-- 2.4.4.2.6
 unfoldable pub onActive : Host → AddrOfInterestReq → Outcome (List ℕ)
 onActive h q =
     let address = q .«nwk_addr_of_interest» in
-    about h address (activeRsp (q .seq) address (h .device)) (λ status. emptyRsp (q .seq) status address)
+    about h address (activeRspOf (q .seq) address (used (h .device))) (λ status. emptyRsp (q .seq) status address)
 
--- the list of a match reply is whole
+-- 2.4.4.2.7; the list of a match reply is whole, and its error form has no address
 unfoldable pub onMatch : Host → List ℕ → MatchDescReq → Outcome (List ℕ)
 onMatch h payload q =
     let address = q .«nwk_addr_of_interest» in
@@ -93,13 +99,13 @@ onMatch h payload q =
 -- refusal 2: a cluster that is no discovery request's
 unfoldable pub discovery : Host → ℕ → List ℕ → Outcome (List ℕ)
 discovery h cluster payload =
-    cond (eqb cluster NWK-ADDR-REQ) (andThen (nwkAddrReq payload) (onNwkAddr h))
-    (cond (eqb cluster IEEE-ADDR-REQ) (andThen (ieeeAddrReq payload) (onIeeeAddr h))
-    (cond (eqb cluster NODE-DESC-REQ) (andThen (addrOfInterestReq payload) (onNode h))
-    (cond (eqb cluster POWER-DESC-REQ) (andThen (addrOfInterestReq payload) (onPower h))
-    (cond (eqb cluster SIMPLE-DESC-REQ) (andThen (simpleDescReq payload) (onSimple h))
-    (cond (eqb cluster ACTIVE-EP-REQ) (andThen (addrOfInterestReq payload) (onActive h))
-    (cond (eqb cluster MATCH-DESC-REQ) (andThen (matchDescReq payload) (onMatch h payload))
+    cond (eqb cluster NWK-ADDR-REQ) (andThen (nwkAddrReqIn payload) (onNwkAddr h))
+    (cond (eqb cluster IEEE-ADDR-REQ) (andThen (ieeeAddrReqIn payload) (onIeeeAddr h))
+    (cond (eqb cluster NODE-DESC-REQ) (andThen (addrOfInterestReqIn payload) (onNode h))
+    (cond (eqb cluster POWER-DESC-REQ) (andThen (addrOfInterestReqIn payload) (onPower h))
+    (cond (eqb cluster SIMPLE-DESC-REQ) (andThen (simpleDescReqIn payload) (onSimple h))
+    (cond (eqb cluster ACTIVE-EP-REQ) (andThen (addrOfInterestReqIn payload) (onActive h))
+    (cond (eqb cluster MATCH-DESC-REQ) (andThen (matchDescReqIn payload) (onMatch h payload))
     (refusal 2)))))))
 
 -- the reply, or refusal 5 where there is no room for it

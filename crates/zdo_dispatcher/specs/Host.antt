@@ -1,11 +1,12 @@
 -- Who answers, and what is asked.
 use Prim.Native.Nat.{ℕ}
 use mathlib.Core.Bool.{Bool}
-use mathlib.Core.List.{List, map}
+use mathlib.Core.List.{List}
+use lib.ListN.{length}
 use Rattle.zigbee_types.specs.declared.IeeeAddress.{IeeeAddress}
 use Rattle.zigbee_types.specs.declared.ShortAddress.{ShortAddress}
 use Rattle.apl_descriptors.specs.SimpleDescriptor.{Endpoint}
-use Rattle.zdo_device.specs.Tables.{Pools, used, goodDevice, endpointOf}
+use Rattle.zdo_device.specs.Tables.{Pools, used, goodDevice, resolvedIn}
 use Rattle.zdo_device.specs.declared.descriptor.DeviceDescriptorConfig.{DeviceDescriptorConfig}
 
 -- our device, with its two addresses and its pools
@@ -15,11 +16,15 @@ pub record Host : Type 0 where
   pub «nwk_addr» : ShortAddress
   pub pools : Pools
 
--- a request's cluster and payload, and the length of the buffer for the reply
+-- a request's cluster and payload, and how many bytes the reply's buffer has
 pub record Asked : Type 0 where
   pub cluster : ℕ
   pub payload : List ℕ
   pub room : ℕ
+
+-- a request, with the buffer that is lent for the reply
+unfoldable pub asking : ℕ → List ℕ → List ℕ → Asked
+asking cluster payload buffer = record { cluster = cluster; payload = payload; room = length buffer }
 
 -- refusal 1 is given for others: the device's tables are good
 unfoldable pub goodHost : Host → Bool
@@ -27,4 +32,4 @@ goodHost h = goodDevice (h .pools) (h .device)
 
 -- our endpoints, with their clusters
 unfoldable pub resolved : Host → List Endpoint
-resolved h = map (endpointOf (h .pools)) (used (h .device))
+resolved h = resolvedIn (h .pools) (used (h .device))

@@ -1,5 +1,5 @@
--- The readers of replies (document 01, "Reply readers"). A reply that is shorter than its layout needs is refusal 3, and
--- bytes behind it are ignored.
+-- The readers of replies (document 01, "Reply readers"). A reply that is shorter than its layout needs is refusal 3. Bytes
+-- behind it are ignored, but for the list of an extended address reply, which goes up to the reply's end.
 use Prim.Native.Nat.{ℕ, _+_, _-_, _/_}
 use mathlib.Core.Bool.{Bool, true, false, _&&_}
 use mathlib.Core.List.{List, [], _∷_}
@@ -39,9 +39,13 @@ use Rattle.zdo_readers.specs.declared.readers.OptionAssociated.{OptionAs
 use Rattle.zdo_readers.specs.declared.readers.OptionAssociated.the-variants as associated
 use Rattle.zdo_readers.specs.declared.readers.StatusRsp.{StatusRsp}
 
--- what most replies begin with: seq, status, the address of interest; 4 bytes
+-- seq, status, the address of interest: 4 bytes
+unfoldable pub headerWidths : List ℕ
+headerWidths = 1 ∷ 1 ∷ 2 ∷ []
+
+-- what most replies begin with
 unfoldable pub headerIn : List ℕ → Outcome RspHeader
-headerIn = parsed (1 ∷ 1 ∷ 2 ∷ []) (λ field. record { seq = field 0; status = field 1; «nwk_addr_of_interest» = shortOf (field 2) })
+headerIn = parsed headerWidths (λ field. record { seq = field 0; status = field 1; «nwk_addr_of_interest» = shortOf (field 2) })
 
 -- ---- node and power
 
@@ -107,26 +111,26 @@ matchRspIn reply = matchRspInAs (eqb (numberAt 1 reply 1) SUCCESS) reply
 
 -- ---- simple
 
--- places in bytes that stand at a place of the reply, counted from the start of the reply
-unfoldable pub moved : ℕ → Places → Places
-moved at p = record { start = at + p .start; count = p .count }
+-- a list in bytes that begin at a place of the reply, counted from the start of the reply
+unfoldable pub shifted : ℕ → Places → Places
+shifted at p = record { start = at + p .start; count = p .count }
 
--- a descriptor that stands at a place of the reply
-unfoldable pub movedFields : ℕ → SimpleDescriptorFields → SimpleDescriptorFields
-movedFields at d =
+-- a descriptor in such bytes
+unfoldable pub shiftedFields : ℕ → SimpleDescriptorFields → SimpleDescriptorFields
+shiftedFields at d =
     record {
       endpoint = d .endpoint;
       «profile_id» = d .«profile_id»;
       «device_id» = d .«device_id»;
       «device_version» = d .«device_version»;
-      «input_clusters» = moved at (d .«input_clusters»);
-      «output_clusters» = moved at (d .«output_clusters»);
+      «input_clusters» = shifted at (d .«input_clusters»);
+      «output_clusters» = shifted at (d .«output_clusters»);
     }
 
 -- a descriptor of length 0 is none; another, which begins at byte 5, is read within its length
 unfoldable pub simpleWithin : List ℕ → Outcome OptionSimpleDescriptor
 simpleWithin [] = answer simple.None
-simpleWithin (b ∷ bs) = mapped (λ d. simple.Some (movedFields 5 d)) (simpleDescriptorIn (b ∷ bs))
+simpleWithin (b ∷ bs) = mapped (λ d. simple.Some (shiftedFields 5 d)) (simpleDescriptorIn (b ∷ bs))
 
 -- the length is byte 4, and the reply must reach as far
 unfoldable pub simpleIn : List ℕ → Outcome OptionSimpleDescriptor
@@ -148,10 +152,14 @@ associatedIn true reply =
     (record { «num_assoc_dev» = numberAt 1 reply 12; «start_index» = numberAt 1 reply 13; devices = record { start = 14; count = (length reply - 14) / 2 } })
 associatedIn false reply = associated.None
 
--- 2.4.4.2.1 and 2.4.4.2.2: seq, status, IEEE address, short address; extended with 14 bytes or more and SUCCESS
+-- seq, status, IEEE address, short address: 12 bytes
+unfoldable pub addrWidths : List ℕ
+addrWidths = 1 ∷ 1 ∷ 8 ∷ 2 ∷ []
+
+-- 2.4.4.2.1 and 2.4.4.2.2: extended with 14 bytes or more and SUCCESS
 unfoldable pub addrRspIn : List ℕ → Outcome AddrRsp
 addrRspIn reply =
-    parsed (1 ∷ 1 ∷ 8 ∷ 2 ∷ [])
+    parsed addrWidths
     (λ field.
     record {
       seq = field 0;

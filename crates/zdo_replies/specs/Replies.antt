@@ -40,7 +40,7 @@ descriptorRspError seq status address = answer (laid (header seq status address)
 unfoldable pub listRsp : ℕ → ShortAddress → List ℕ → Outcome (List ℕ)
 listRsp seq address endpoints = answer (laid (header seq SUCCESS address ++ byte (min (length endpoints) 255) ∷ []) ++ endpoints)
 
--- an error of active: a count of zero in place of the list; 5 bytes
+-- an error of active or simple: a zero in place of the list or the descriptor; 5 bytes
 unfoldable pub emptyRsp : ℕ → ℕ → ShortAddress → Outcome (List ℕ)
 emptyRsp seq status address = answer (laid (header seq status address ++ byte 0 ∷ []))
 
@@ -50,7 +50,7 @@ matchDescRspError seq status = answer (laid (byte seq ∷ byte status ∷ byte 0
 
 -- ---- simple
 
--- 2.4.4.2.5: the descriptor's length, and the descriptor, or refusal 4. An error is `emptyRsp`: a length of zero.
+-- 2.4.4.2.5: the descriptor's length, and the descriptor; or refusal 4
 unfoldable pub describedRsp : ℕ → ShortAddress → Endpoint → Outcome (List ℕ)
 describedRsp seq address e =
     andThen (simpleWritten e) (λ descriptor. answer (laid (header seq SUCCESS address ++ byte (length descriptor) ∷ []) ++ descriptor))
@@ -58,17 +58,17 @@ describedRsp seq address e =
 -- ---- addresses
 
 -- 2.4.4.2.1 and 2.4.4.2.2: seq, status, IEEE address, short address; 12 bytes, on an error too
-unfoldable pub addrFields : ℕ → ℕ → IeeeAddress → ShortAddress → List Field
-addrFields seq status long address = byte seq ∷ byte status ∷ ieee long ∷ short address ∷ []
+unfoldable pub addrHeader : ℕ → ℕ → IeeeAddress → ShortAddress → List Field
+addrHeader seq status long address = byte seq ∷ byte status ∷ ieee long ∷ short address ∷ []
 
 -- a single reply, or an error
 unfoldable pub addrRspSingle : ℕ → ℕ → IeeeAddress → ShortAddress → Outcome (List ℕ)
-addrRspSingle seq status long address = answer (laid (addrFields seq status long address))
+addrRspSingle seq status long address = answer (laid (addrHeader seq status long address))
 
 -- an extended reply: the number of children, the index asked for, and the children from there on
 unfoldable pub addrRspExtended : ℕ → IeeeAddress → ShortAddress → ℕ → List ShortAddress → Outcome (List ℕ)
 addrRspExtended seq long address start children =
-    answer (laid (addrFields seq SUCCESS long address ++ byte (length children) ∷ byte start ∷ map short (drop start children)))
+    answer (laid (addrHeader seq SUCCESS long address ++ byte (length children) ∷ byte start ∷ map short (drop start children)))
 
 -- `addr_rsp`: is it extended? A device without children adds two zero bytes.
 unfoldable pub addrRsp : ℕ → IeeeAddress → ShortAddress → Bool → Outcome (List ℕ)

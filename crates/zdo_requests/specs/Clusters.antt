@@ -1,4 +1,4 @@
--- The clusters of the ten requests (2.4.3), by the Rust's names.
+-- The numbers that requests are told apart by (2.4.3), under the Rust's names: first the clusters of the ten requests.
 use Prim.Native.Nat.{ℕ, _+_}
 
 abbrev pub NWK-ADDR-REQ : ℕ
@@ -30,6 +30,13 @@ UNBIND-REQ = 0x0022
 
 abbrev pub MGMT-LEAVE-REQ : ℕ
 MGMT-LEAVE-REQ = 0x0034
+
+-- the types of an address request (2.4.3.1.1): the device alone, and its associated devices too
+abbrev pub ADDR-REQUEST-SINGLE : ℕ
+ADDR-REQUEST-SINGLE = 0x00
+
+abbrev pub ADDR-REQUEST-EXTENDED : ℕ
+ADDR-REQUEST-EXTENDED = 0x01
 
 -- the cluster of the reply to a request (2.4.4; document 01, "Binding and dispatch")
 abbrev pub replyCluster : ℕ → ℕ

@@ -1,5 +1,5 @@
--- The ten requests, from bytes to fields (document 01, "Payloads"; 2.4.3). Each is a table of widths, shorter payloads are
--- refusal 3, and extra bytes behind are ignored.
+-- The ten requests, from bytes to fields (document 01, "Payloads"; 2.4.3). A payload that is shorter than its fields and lists
+-- is refusal 3, and bytes behind them are ignored.
 use Prim.Native.Nat.{ℕ}
 use mathlib.Core.Bool.{Bool, true, false, cond}
 use mathlib.Core.List.{List, [], _∷_}
@@ -25,29 +25,29 @@ use Rattle.zdo_requests.specs.declared.descriptor.OptionIeeeAddress.{Opt
 use Rattle.zdo_requests.specs.declared.descriptor.OptionIeeeAddress.the-variants.{Some, None}
 
 -- 2.4.3.1.1: seq, IEEE address, type; StartIndex is not read
-unfoldable pub nwkAddrReq : List ℕ → Outcome NwkAddrReq
-nwkAddrReq = parsed (1 ∷ 8 ∷ 1 ∷ []) (λ field. record { seq = field 0; «ieee_addr» = ieeeOf (field 1); «request_type» = field 2 })
+unfoldable pub nwkAddrReqIn : List ℕ → Outcome NwkAddrReq
+nwkAddrReqIn = parsed (1 ∷ 8 ∷ 1 ∷ []) (λ field. record { seq = field 0; «ieee_addr» = ieeeOf (field 1); «request_type» = field 2 })
 
 -- 2.4.3.1.2: seq, short address, type; StartIndex is not read
-unfoldable pub ieeeAddrReq : List ℕ → Outcome IeeeAddrReq
-ieeeAddrReq = parsed (1 ∷ 2 ∷ 1 ∷ []) (λ field. record { seq = field 0; «nwk_addr_of_interest» = shortOf (field 1); «request_type» = field 2 })
+unfoldable pub ieeeAddrReqIn : List ℕ → Outcome IeeeAddrReq
+ieeeAddrReqIn = parsed (1 ∷ 2 ∷ 1 ∷ []) (λ field. record { seq = field 0; «nwk_addr_of_interest» = shortOf (field 1); «request_type» = field 2 })
 
 -- 2.4.3.1.3, 2.4.3.1.4 and 2.4.3.1.6, node, power and active: seq, short address
-unfoldable pub addrOfInterestReq : List ℕ → Outcome AddrOfInterestReq
-addrOfInterestReq = parsed (1 ∷ 2 ∷ []) (λ field. record { seq = field 0; «nwk_addr_of_interest» = shortOf (field 1) })
+unfoldable pub addrOfInterestReqIn : List ℕ → Outcome AddrOfInterestReq
+addrOfInterestReqIn = parsed (1 ∷ 2 ∷ []) (λ field. record { seq = field 0; «nwk_addr_of_interest» = shortOf (field 1) })
 
 -- the address alone, as `parse_addr_of_interest` gives it
-unfoldable pub addrOfInterest : List ℕ → Outcome ShortAddress
-addrOfInterest payload = mapped (λ q. q .«nwk_addr_of_interest») (addrOfInterestReq payload)
+unfoldable pub addrOfInterestIn : List ℕ → Outcome ShortAddress
+addrOfInterestIn payload = mapped (λ q. q .«nwk_addr_of_interest») (addrOfInterestReqIn payload)
 
 -- 2.4.3.1.5: the same, then the endpoint
-unfoldable pub simpleDescReq : List ℕ → Outcome SimpleDescReq
-simpleDescReq =
+unfoldable pub simpleDescReqIn : List ℕ → Outcome SimpleDescReq
+simpleDescReqIn =
     parsed (1 ∷ 2 ∷ 1 ∷ []) (λ field. record { seq = field 0; «nwk_addr_of_interest» = shortOf (field 1); endpoint = field 2 })
 
 -- a match request's first fields, then its lists
-unfoldable pub matchFields : (ℕ → ℕ) → Places → Places → MatchDescReq
-matchFields field inputs outputs =
+unfoldable pub matchReqOf : (ℕ → ℕ) → Places → Places → MatchDescReq
+matchReqOf field inputs outputs =
     record {
       seq = field 0;
       «nwk_addr_of_interest» = shortOf (field 1);
@@ -58,27 +58,27 @@ matchFields field inputs outputs =
 
 -- 2.4.3.1.7: seq, short address, profile; then inputs, counted at byte 5, and outputs behind them, two bytes for each
 -- cluster; refusal 3 where the payload ends before the outputs do
-unfoldable pub matchDescReq : List ℕ → Outcome MatchDescReq
-matchDescReq payload =
+unfoldable pub matchDescReqIn : List ℕ → Outcome MatchDescReq
+matchDescReqIn payload =
     let inputs = counted payload 5 in
     let outputs = counted payload (behind 2 inputs) in
-    needing (behind 2 outputs) payload (matchFields (fieldOf (1 ∷ 2 ∷ 2 ∷ []) payload) inputs outputs)
+    needing (behind 2 outputs) payload (matchReqOf (fieldOf (1 ∷ 2 ∷ 2 ∷ []) payload) inputs outputs)
 
 -- a bind request's first fields, then its destination
-unfoldable pub bindFields : (ℕ → ℕ) → BindReqDestination → BindReq
-bindFields field destination =
+unfoldable pub bindReqOf : (ℕ → ℕ) → BindReqDestination → BindReq
+bindReqOf field destination =
     record { seq = field 0; «src_address» = ieeeOf (field 1); «src_endpoint» = field 2; «cluster_id» = field 3; destination = destination }
 
 -- seq, source address, endpoint, cluster, mode; then, by whether the mode is group and whether it is device: a group
 -- address, 15 bytes in all; an IEEE address and an endpoint, 22 bytes in all; any other mode is refusal 3
-unfoldable pub bindReqAs : Bool → Bool → List ℕ → Outcome BindReq
-bindReqAs true device payload = parsed (1 ∷ 8 ∷ 1 ∷ 2 ∷ 1 ∷ 2 ∷ []) (λ field. bindFields field (Group (groupOf (field 5)))) payload
-bindReqAs false true payload = parsed (1 ∷ 8 ∷ 1 ∷ 2 ∷ 1 ∷ 8 ∷ 1 ∷ []) (λ field. bindFields field (Device (ieeeOf (field 5)) (field 6))) payload
-bindReqAs false false payload = refusal 3
+unfoldable pub bindReqInAs : Bool → Bool → List ℕ → Outcome BindReq
+bindReqInAs true device payload = parsed (1 ∷ 8 ∷ 1 ∷ 2 ∷ 1 ∷ 2 ∷ []) (λ field. bindReqOf field (Group (groupOf (field 5)))) payload
+bindReqInAs false true payload = parsed (1 ∷ 8 ∷ 1 ∷ 2 ∷ 1 ∷ 8 ∷ 1 ∷ []) (λ field. bindReqOf field (Device (ieeeOf (field 5)) (field 6))) payload
+bindReqInAs false false payload = refusal 3
 
 -- 2.4.3.2.2 and 2.4.3.2.3, bind and unbind: the mode is byte 12; a payload that ends before it reads as mode 0
-unfoldable pub bindReq : List ℕ → Outcome BindReq
-bindReq payload = bindReqAs (eqb (numberAt 1 payload 12) GROUP) (eqb (numberAt 1 payload 12) DEVICE) payload
+unfoldable pub bindReqIn : List ℕ → Outcome BindReq
+bindReqIn payload = bindReqInAs (eqb (numberAt 1 payload 12) GROUP) (eqb (numberAt 1 payload 12) DEVICE) payload
 
 -- the entry of an endpoint, a cluster and a destination
 unfoldable pub bindingTo : ℕ → ℕ → BindReqDestination → Binding
@@ -94,8 +94,8 @@ unfoldable pub optionIeee : ℕ → OptionIeeeAddress
 optionIeee n = cond (eqb n 0) None (Some (ieeeOf n))
 
 -- 2.4.3.3.5: seq, IEEE address, options: bit 6 children, bit 7 rejoin
-unfoldable pub mgmtLeaveReq : List ℕ → Outcome MgmtLeaveReq
-mgmtLeaveReq =
+unfoldable pub mgmtLeaveReqIn : List ℕ → Outcome MgmtLeaveReq
+mgmtLeaveReqIn =
     parsed (1 ∷ 8 ∷ 1 ∷ [])
     (λ field.
     record { seq = field 0; «device_address» = optionIeee (field 1); «remove_children» = bitAt 6 (field 2); rejoin = bitAt 7 (field 2) })

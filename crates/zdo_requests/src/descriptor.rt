@@ -25,6 +25,12 @@ pub const UNBIND_REQ: u16 = 0x0022;
 
 pub const MGMT_LEAVE_REQ: u16 = 0x0034;
 
+// Address request type: report only the addressed device (2.4.3.1.1).
+pub const ADDR_REQUEST_SINGLE: u8 = 0x00;
+
+// Address request type: also report the associated devices (2.4.3.1.1).
+pub const ADDR_REQUEST_EXTENDED: u8 = 0x01;
+
 // A parsed NWK_addr_req (2.4.3.1.1).
 pub struct NwkAddrReq {
     // ZDP transaction sequence number to echo in the response.

@@ -2,3 +2,4 @@ pub mod Numbers
 pub mod Fields
 pub mod Layouts
 pub mod Runs
+pub mod OneOutcome

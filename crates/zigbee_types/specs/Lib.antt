@@ -6,3 +6,4 @@ pub mod Layout
 pub mod Addresses
 pub mod Statuses
 pub mod FieldLaws
+pub mod OneOutcome

@@ -41,12 +41,16 @@ pub record Wrote (o : Outcome (List ℕ)) (before : List ℕ) (told : Outcome �
   pub said : told ≡ mapped length (fitted (length before) o)
   pub left : after ≡ written before (fitted (length before) o)
 
--- what the buffer then holds, of a list that may be cut: as much of it as there is room for, and what stood behind that
+-- of a list that may be cut: how many of it there is room for
+unfoldable pub begunLength : List ℕ → Outcome (List ℕ) → Outcome ℕ
+begunLength before o = mapped (λ xs. min (length before) (length xs)) o
+
+-- what the buffer then holds: as many of the list as there is room for, and what stood behind them
 unfoldable pub begun : List ℕ → Outcome (List ℕ) → List ℕ
 begun before (answer xs) = take (length before) xs ++ drop (length xs) before
 begun before (refusal n) = before
 
 -- a search that comes to the list o: how many of it are in the buffer or the refusal is told, and they begin the buffer
 pub record Begun (o : Outcome (List ℕ)) (before : List ℕ) (told : Outcome ℕ) (after : List ℕ) : Type 0 where
-  pub said : told ≡ mapped (λ xs. min (length before) (length xs)) o
+  pub said : told ≡ begunLength before o
   pub left : after ≡ begun before o

@@ -1,0 +1,75 @@
+-- Readers and writers have one table of widths, and each reply has document 01's length. Assumes nothing.
+use Prim.Native.Nat.{ℕ, min, _+_, _*_, _≤_}
+use native.Mathlib.Omega.{arith}
+use mathlib.Core.Path.{_≡_, refl, ap}
+use mathlib.Core.List.{List, [], _∷_, _++_, map}
+use lib.ListN.{length, length-append}
+use borrow.Author.Tests.{le-leb}
+use Rattle.zigbee_types.specs.Outcome.{answer, andThen, mapped}
+use Rattle.zigbee_types.specs.Bytes.{le, number, numberAt}
+use Rattle.zigbee_types.specs.Layout.{byte, word, laid, size}
+use Rattle.zigbee_types.specs.Addresses.{ieee, short}
+use Rattle.zigbee_types.specs.FieldLaws.{widths}
+use Rattle.zigbee_types.specs.Statuses.{SUCCESS}
+use Rattle.zigbee_types.specs.declared.ShortAddress.{ShortAddress}
+use Rattle.zigbee_types.proofs.Layouts.{laid-counted}
+use Rattle.apl_descriptors.specs.NodeDescriptor.{nodeDescriptor, nodeWidths}
+use Rattle.apl_descriptors.specs.PowerDescriptor.{powerDescriptor, powerWidths}
+use Rattle.apl_descriptors.specs.SimpleDescriptor.{Endpoint, clusterList, simpleDescriptor, simpleWritten}
+use Rattle.zdo_requests.specs.Requests.{nodeDescReq}
+use Rattle.zdo_replies.specs.Replies.{header, addrHeader, nodeDescRsp, powerDescRsp, descriptorRspError, listRsp, emptyRsp, matchDescRspError, describedRsp, addrRsp, addrRspSingle, addrRspExtended, statusRsp}
+use Rattle.zdo_readers.specs.Readers.{headerWidths, addrWidths}
+use Rattle.demands.specs.Frames.{OneLayout, ReplyLengths, clusters}
+
+pub one-layout : OneLayout
+unfolding nodeDescriptor nodeWidths powerDescriptor powerWidths header headerWidths addrHeader addrWidths
+one-layout = record { node = λ n. refl; power = λ p. refl; header = λ seq status a. refl; address = λ seq status l a. refl }
+
+-- words take two bytes each
+size-words : (xs : List ℕ) → size (widths (map word xs)) ≡ 2 * length xs
+unfolding size
+size-words [] = refl
+size-words (x ∷ xs) = omega (arith, size-words xs)
+
+-- a list of clusters takes its count and two bytes for each
+length-clusters : (xs : List ℕ) → length (clusterList xs) ≡ 1 + 2 * length xs
+unfolding clusterList size
+length-clusters xs = rw laid-counted (omega (arith, size-words xs))
+
+-- a simple descriptor takes eight bytes and two for each cluster
+pub length-simple : (e : Endpoint) → length (simpleDescriptor e) ≡ 8 + 2 * clusters e
+unfolding simpleDescriptor size
+length-simple e = rw (length-append, length-append, laid-counted, length-clusters, length-clusters) (omega arith)
+
+module _ (seq : ℕ) (a : ShortAddress) (e : Endpoint) (few : clusters e ≤ 28) where
+  -- the reply is its header, the length, and the descriptor
+  described : describedRsp seq a e ≡ answer (laid (header seq SUCCESS a ++ byte (length (simpleDescriptor e)) ∷ []) ++ simpleDescriptor e)
+  unfolding describedRsp simpleWritten andThen
+  described = rw (le-leb _ _ few)
+
+  described-length : mapped length (describedRsp seq a e) ≡ answer (5 + (8 + 2 * clusters e))
+  unfolding mapped header size
+  described-length = rw (described, length-append, laid-counted, length-simple)
+
+  described-byte : mapped (λ bytes. numberAt 1 bytes 4) (describedRsp seq a e) ≡ answer (8 + 2 * clusters e)
+  unfolding mapped header laid le numberAt number
+  described-byte = rw (described, length-simple) (ap answer (omega arith))
+
+pub reply-lengths : ReplyLengths
+unfolding mapped nodeDescRsp powerDescRsp descriptorRspError listRsp emptyRsp matchDescRspError addrRsp addrRspSingle addrRspExtended statusRsp nodeDescReq header addrHeader nodeDescriptor powerDescriptor size
+reply-lengths =
+    record {
+      node = λ seq a n. ap answer (laid-counted (header seq SUCCESS a ++ nodeDescriptor n));
+      power = λ seq a p. ap answer (laid-counted (header seq SUCCESS a ++ powerDescriptor p));
+      list = λ seq a xs. rw (length-append, laid-counted);
+      simple = described-length;
+      lengthByte = described-byte;
+      single = λ seq l a. rw laid-counted;
+      extended = λ seq l a. rw laid-counted;
+      addressError = λ seq status l a. rw laid-counted;
+      descriptorError = λ seq status a. rw laid-counted;
+      listError = λ seq status a. rw laid-counted;
+      matchError = λ seq status. rw laid-counted;
+      status = λ seq status. rw laid-counted;
+      nodeRequest = λ seq a. rw laid-counted;
+    }

@@ -1,0 +1,18 @@
+-- The table of all cases, and the one claim about it.
+use mathlib.Core.Path.{_≡_}
+use mathlib.Core.List.{List, [], _∷_, map}
+use Rattle.demands.specs.Cases.{Case}
+use Rattle.demands.specs.CounterCases.{K1, K2, K3, K4, K5, K6, K7, K8, K9, K10, K11, Sample}
+use Rattle.demands.specs.RuleCases.{NwkAddr, IeeeAddr, Elsewhere, Ours, LongList, Parts, Linking, Shifting, Refusals, Left, Telling, Tables, Links, Leave, Descriptors, Lists, Simple, Addresses, Reserved, Flags, Codes}
+
+-- K1 to K11, the sample, and the cases of the other rules
+unfoldable pub cases : List Case
+cases =
+    K1 ∷ K2 ∷ K3 ∷ K4 ∷ K5 ∷ K6 ∷ K7 ∷ K8 ∷ K9 ∷ K10 ∷ K11 ∷ Sample
+    ∷ NwkAddr ∷ IeeeAddr ∷ Elsewhere ∷ Ours ∷ LongList ∷ Parts ∷ Linking ∷ Shifting ∷ Refusals ∷ Left ∷ Telling ∷ Tables ∷ Links ∷ Leave
+    ∷ Descriptors ∷ Lists ∷ Simple ∷ Addresses ∷ Reserved ∷ Flags ∷ Codes
+    ∷ []
+
+-- in each entry the definitions say what document 01 says
+unfoldable pub CounterCases : Type 0
+CounterCases = map (λ c. c .says) cases ≡ map (λ c. c .expected) cases
