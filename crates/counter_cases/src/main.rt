@@ -1,6 +1,8 @@
-// The program of counter-cases: runs the library on inputs of document 01 and prints what it gives, for the gate to compare with
-// document 01. Today the fields of K10's bind request, read and put back.
+// The program of counter-cases: runs the library on inputs of document 01 and prints what it gives. Its file stdout has what
+// document 01 says. Today: the fields of K10's bind request, read and put back.
 use libc::STDOUT_FILENO;
+use zigbee_types::GroupAddress;
+use zigbee_types::IeeeAddress;
 use zigbee_types::byte::read_u8;
 use zigbee_types::byte::read_u16;
 use zigbee_types::byte::read_u64;
@@ -8,14 +10,14 @@ use zigbee_types::byte::write_u8;
 use zigbee_types::byte::write_u16;
 use zigbee_types::byte::write_u64;
 
-// The first fields of a bind request to a group (2.4.3.2.2).
+// The fields of a bind request to a group (2.4.3.2.2).
 struct Fields {
     seq: u8,
-    src_address: u64,
+    src_address: IeeeAddress,
     src_endpoint: u8,
     cluster_id: u16,
     dst_addr_mode: u8,
-    dst_group: u16,
+    dst_group: GroupAddress,
 }
 
 // Each field begins where the one before it ended.
@@ -28,22 +30,22 @@ fn fields_of(request: &[u8; 15]) -> Fields {
     let dst_group = read_u16(request, dst_addr_mode.next);
     Fields {
         seq: seq.value,
-        src_address: src_address.value,
+        src_address: IeeeAddress(src_address.value),
         src_endpoint: src_endpoint.value,
         cluster_id: cluster_id.value,
         dst_addr_mode: dst_addr_mode.value,
-        dst_group: dst_group.value,
+        dst_group: GroupAddress(dst_group.value),
     }
 }
 
 // Puts the fields one behind the other at the front of a buffer.
 fn put(fields: Fields, out: &mut [u8; 16]) {
     let at = write_u8(out, 0, fields.seq);
-    let at = write_u64(out, at, fields.src_address);
+    let at = write_u64(out, at, fields.src_address.0);
     let at = write_u8(out, at, fields.src_endpoint);
     let at = write_u16(out, at, fields.cluster_id);
     let at = write_u8(out, at, fields.dst_addr_mode);
-    write_u16(out, at, fields.dst_group);
+    write_u16(out, at, fields.dst_group.0);
 }
 
 // A number of so many hexadecimal digits, with a space before it.
@@ -86,11 +88,11 @@ fn main() {
     let fields = fields_of(&request);
     io::write_all(STDOUT_FILENO, b"K10 fields");
     print(wide(fields.seq), 2);
-    print(fields.src_address, 16);
+    print(fields.src_address.0, 16);
     print(wide(fields.src_endpoint), 2);
     print(fields.cluster_id as u64, 4);
     print(wide(fields.dst_addr_mode), 2);
-    print(fields.dst_group as u64, 4);
+    print(fields.dst_group.0 as u64, 4);
     let mut out = [0xEEu8; 16];
     put(fields, &mut out);
     io::write_all(STDOUT_FILENO, b"\nK10 bytes");
