@@ -17,6 +17,7 @@ pub record NodeBits (n : NodeDescriptorConfig) : Type 0 where
   pub below : nodeByte1 n % 8 ≡ 0
   pub band : nodeByte1 n / 8 ≡ n .«frequency_band» % 32
 
+-- of every node configuration
 abbrev pub NodeBitsStand : Type 0
 NodeBitsStand = (n : NodeDescriptorConfig) → NodeBits n
 
@@ -27,5 +28,6 @@ pub record PowerBits (p : PowerDescriptorConfig) : Type 0 where
   pub source : powerByte1 p % 16 ≡ sourceBits (p .«current_power_source»)
   pub level : powerByte1 p / 16 ≡ levelBits (p .«current_power_source_level»)
 
+-- of every power configuration
 abbrev pub PowerBitsStand : Type 0
 PowerBitsStand = (p : PowerDescriptorConfig) → PowerBits p

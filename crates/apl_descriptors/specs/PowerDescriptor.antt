@@ -19,27 +19,29 @@ use Rattle.apl_descriptors.specs.declared.node_power_descriptor.CurrentP
 
 -- ---- the numbers of each field; reserved ones keep their low four bits (document 01)
 
--- 2.3.2.4.1
+-- the number of a mode (2.3.2.4.1)
 unfoldable pub modeBits : CurrentPowerMode → ℕ
 modeBits mode.Synchronized = 0
 modeBits mode.Periodically = 1
 modeBits mode.Stimulated = 2
 modeBits (mode.Reserved n) = n % 16
 
+-- the mode that a number stands for
 unfoldable pub currentPowerMode : ℕ → CurrentPowerMode
 currentPowerMode n = named modeBits (mode.Synchronized ∷ mode.Periodically ∷ mode.Stimulated ∷ []) mode.Reserved n
 
--- 2.3.2.4.2 and 2.3.2.4.3: a source is its bit
+-- the number of a source, which is its bit (2.3.2.4.2, 2.3.2.4.3)
 unfoldable pub sourceBits : PowerSource → ℕ
 sourceBits source.ConstantMainPower = 1
 sourceBits source.RechargeableBattery = 2
 sourceBits source.DisposableBattery = 4
 sourceBits (source.Reserved n) = n % 16
 
+-- the source that a number stands for
 unfoldable pub powerSource : ℕ → PowerSource
 powerSource n = named sourceBits (source.ConstantMainPower ∷ source.RechargeableBattery ∷ source.DisposableBattery ∷ []) source.Reserved n
 
--- 2.3.2.4.4
+-- the number of a level (2.3.2.4.4)
 unfoldable pub levelBits : CurrentPowerSourceLevel → ℕ
 levelBits level.Critical = 0
 levelBits level.OneThird = 4
@@ -47,6 +49,7 @@ levelBits level.TwoThirds = 8
 levelBits level.Full = 12
 levelBits (level.Reserved n) = n % 16
 
+-- the level that a number stands for
 unfoldable pub currentPowerSourceLevel : ℕ → CurrentPowerSourceLevel
 currentPowerSourceLevel n = named levelBits (level.Critical ∷ level.OneThird ∷ level.TwoThirds ∷ level.Full ∷ []) level.Reserved n
 

@@ -8,10 +8,11 @@ use Rattle.zigbee_types.specs.declared.IeeeAddress.{IeeeAddress}
 use Rattle.zigbee_types.specs.declared.GroupAddress.{GroupAddress}
 use Rattle.aps_binding.specs.declared.binding.Binding.{Binding}
 
--- the two modes of a destination (2.4.3.2.2)
+-- the mode of a destination that is a group (2.4.3.2.2)
 abbrev pub GROUP : ℕ
 GROUP = 0x01
 
+-- and of one that is an endpoint of a device
 abbrev pub DEVICE : ℕ
 DEVICE = 0x03
 

@@ -1,3 +1,4 @@
 pub mod Entry
 pub mod Held
 pub mod Table
+pub mod Places

@@ -43,9 +43,10 @@ linked t step =
     let s = step (held t) in
     cond (goodTable t) (answer (record { table = placed t (s .entries); status = s .status })) (refusal 1)
 
--- `create_binding_link` and `remove_binding_link`
+-- `create_binding_link`
 unfoldable pub createBindingLink : BindingTable → Binding → Outcome Linked
 createBindingLink t b = linked t (λ xs. bound (t .limit) xs b)
 
+-- `remove_binding_link`
 unfoldable pub removeBindingLink : BindingTable → Binding → Outcome Linked
 removeBindingLink t b = linked t (λ xs. unbound xs b)

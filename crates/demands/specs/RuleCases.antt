@@ -446,10 +446,12 @@ abbrev pub maker : OptionNodeDescriptor → List ℕ
 maker (node.Some d) = d .«manufacturer_code» ∷ []
 maker node.None = []
 
+-- the bytes of a power descriptor, where there is one
 abbrev pub powerBytes : OptionPowerDescriptor → List ℕ
 powerBytes (power.Some d) = d .«byte0» ∷ d .«byte1» ∷ []
 powerBytes power.None = []
 
+-- a server mask, where there is one
 abbrev pub someMask : OptionServerMask → List ℕ
 someMask (mask.Some m) = m ∷ []
 someMask mask.None = []
@@ -481,9 +483,11 @@ Descriptors =
           ∷ [];
     }
 
+-- where a list stands, and how many entries it has
 abbrev pub places : Places → List ℕ
 places p = p .start ∷ p .count ∷ []
 
+-- of a match reply seq, address and list; of a failed one seq and status
 abbrev pub matchNumbers : MatchRsp → List ℕ
 matchNumbers (Matched r) = r .header .seq ∷ r .header .«nwk_addr_of_interest» .0 ∷ places (r .endpoints)
 matchNumbers (Failed seq status) = seq ∷ status ∷ []
@@ -510,6 +514,7 @@ Lists =
           ∷ [];
     }
 
+-- the fields of a simple descriptor, where there is one
 abbrev pub simpleNumbers : OptionSimpleDescriptor → List ℕ
 simpleNumbers simple.None = []
 simpleNumbers (simple.Some d) =
@@ -540,6 +545,7 @@ Simple =
           ∷ [];
     }
 
+-- what an extended address reply adds, where it does
 abbrev pub extension : OptionAssociated → List ℕ
 extension (associated.Some e) = e .«num_assoc_dev» ∷ e .«start_index» ∷ places (e .devices)
 extension associated.None = []

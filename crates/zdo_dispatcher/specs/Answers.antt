@@ -73,11 +73,12 @@ bufferAfter before (answer (reply cluster bytes u)) = written before (answer byt
 bufferAfter before (answer (leave q)) = before
 bufferAfter before (refusal n) = before
 
--- what is told of an answer: a reply's cluster and length, or the leave request
+-- what is told to the caller
 pub data Told : Type 0 where
   replied : ℕ → ℕ → Told
   left : MgmtLeaveReq → Told
 
+-- of a reply its cluster and length are told, of a leave its request
 unfoldable pub toldOf : Answer → Told
 toldOf (reply cluster bytes u) = replied cluster (length bytes)
 toldOf (leave q) = left q

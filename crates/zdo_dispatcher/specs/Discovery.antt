@@ -52,7 +52,7 @@ onIeeeAddr h q =
 
 -- ---- descriptors and lists
 
--- the status for another short address: a router or coordinator does not know the device, any other type cannot be asked. A
+-- the status for another short address: DEVICE_NOT_FOUND from a router or coordinator, INV_REQUESTTYPE from any other type. A
 -- reserved type is neither, whatever it is cut to.
 unfoldable pub notOurs : LogicalType → ℕ
 notOurs Coordinator = DEVICE-NOT-FOUND

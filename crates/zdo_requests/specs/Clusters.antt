@@ -31,10 +31,11 @@ UNBIND-REQ = 0x0022
 abbrev pub MGMT-LEAVE-REQ : ℕ
 MGMT-LEAVE-REQ = 0x0034
 
--- the types of an address request (2.4.3.1.1): the device alone, and its associated devices too
+-- the type of an address request that asks for the device alone (2.4.3.1.1)
 abbrev pub ADDR-REQUEST-SINGLE : ℕ
 ADDR-REQUEST-SINGLE = 0x00
 
+-- and of one that asks for its associated devices too
 abbrev pub ADDR-REQUEST-EXTENDED : ℕ
 ADDR-REQUEST-EXTENDED = 0x01
 

@@ -15,19 +15,22 @@ ieee a = record { width = 8; value = a .0 }
 abbrev pub short : ShortAddress → Field
 short a = word (a .0)
 
--- the addresses that numbers name
+-- the IEEE address that a number names
 abbrev pub ieeeOf : ℕ → IeeeAddress
 ieeeOf n = record { 0 = n }
 
+-- the short address
 abbrev pub shortOf : ℕ → ShortAddress
 shortOf n = record { 0 = n }
 
+-- the group address
 abbrev pub groupOf : ℕ → GroupAddress
 groupOf n = record { 0 = n }
 
--- are two addresses one?
+-- are two IEEE addresses one?
 abbrev pub sameIeee : IeeeAddress → IeeeAddress → Bool
 sameIeee a b = eqb (a .0) (b .0)
 
+-- are two short addresses one?
 abbrev pub sameShort : ShortAddress → ShortAddress → Bool
 sameShort a b = eqb (a .0) (b .0)

@@ -1,0 +1,29 @@
+-- What a bind, an unbind and a call that changes nothing leave in the places of a table, as statements. A term of each stands in
+-- proofs/.
+use Prim.Native.Nat.{_+_, _-_, _≤_, _<_}
+use mathlib.Core.Path.{_≡_}
+use mathlib.Core.List.{List, [], _∷_, _++_}
+use lib.ListN.{length, set, drop}
+use Rattle.aps_binding.specs.Entry.{unused}
+use Rattle.aps_binding.specs.Table.{held, placed}
+use Rattle.aps_binding.specs.declared.binding.Binding.{Binding}
+use Rattle.aps_binding.specs.declared.binding.BindingTable.{BindingTable}
+
+-- the entries that a table holds, placed into it, leave it as it was
+abbrev pub HeldStays : Type 0
+HeldStays = (t : BindingTable) → t .count ≤ length (t .entries) → placed t (held t) ≡ t
+
+-- with one entry more at the end, that entry stands at the count and all else stays
+abbrev pub AddedStands : Type 0
+AddedStands =
+    (t : BindingTable) (b : Binding)
+    → t .count < length (t .entries)
+    → placed t (held t ++ (b ∷ [])) ≡ record { entries = set (t .entries) (t .count) b; limit = t .limit; count = t .count + 1 }
+
+-- with one entry fewer, the place that is freed is unused and all behind it stays
+abbrev pub FreedUnused : Type 0
+FreedUnused =
+    (t : BindingTable) (xs : List Binding)
+    → length xs + 1 ≡ t .count
+    → t .count ≤ length (t .entries)
+    → placed t xs ≡ record { entries = xs ++ (unused ∷ []) ++ drop (t .count) (t .entries); limit = t .limit; count = t .count - 1 }
