@@ -97,7 +97,7 @@ supports d s = common (d .«byte0» / 16) (sourceBits s)
 
 -- is a current source one that the reader takes: 1, 2 or 4, and among the available?
 unfoldable pub usable : ℕ → ℕ → Bool
-usable available source = (eqb source 1 || eqb source 2 || eqb source 4) && common available source
+usable available current = (eqb current 1 || eqb current 2 || eqb current 4) && common available current
 
 -- the descriptor at the front of bytes; refusal 3 for fewer than two, and for a current source that is not usable
 unfoldable pub powerDescriptorIn : List ℕ → Outcome NodePowerDescriptor

@@ -34,7 +34,7 @@ unused = groupBinding 0 0 (groupOf 0)
 unfoldable pub routes : Binding → ℕ → ℕ → Bool
 routes b endpoint cluster = eqb (b .«src_endpoint») endpoint && eqb (b .«cluster_id») cluster
 
--- what tells entries apart
+-- what tells entries apart, the number that differs most often first
 unfoldable pub key : Binding → List ℕ
 key b = b .«cluster_id» ∷ b .«src_endpoint» ∷ b .«dst_ieee» .0 ∷ b .«dst_endpoint» ∷ b .«dst_group» .0 ∷ b .«dst_addr_mode» ∷ []
 

@@ -23,7 +23,8 @@ goodTable t = leb (t .count) (t .limit) && leb (t .limit) 32
 unfoldable pub held : BindingTable → List Binding
 held t = take (t .count) (t .entries)
 
--- the table once it holds xs: these come first, a place that they no longer use is unused, and what stood behind stays
+-- the table once it holds xs: these come first, a place that they no longer use is unused, and what stood behind stays. After
+-- a bind xs is one longer and nothing is freed; after an unbind it is one shorter and one place is freed.
 unfoldable pub placed : BindingTable → List Binding → BindingTable
 placed t xs =
     record {

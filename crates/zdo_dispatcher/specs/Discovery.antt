@@ -1,7 +1,7 @@
 -- The discovery requests: what a host with good tables replies (document 01, "Binding and dispatch"). No binding table comes
 -- into it.
 use Prim.Native.Nat.{ℕ}
-use mathlib.Core.Bool.{Bool, true, false, cond}
+use mathlib.Core.Bool.{true, false, cond}
 use mathlib.Core.List.{List}
 use lib.Dec.{eqb}
 use Rattle.zigbee_types.specs.Outcome.{Outcome, refusal, andThen, fitted}
@@ -25,16 +25,12 @@ use Rattle.zdo_dispatcher.specs.Host.{Host, Asked, resolved}
 
 -- ---- addresses
 
--- a request about us, by whether its type is single and whether it is extended; any other type is INV_REQUESTTYPE with our
--- two addresses
-unfoldable pub addressAs : Bool → Bool → Host → ℕ → Outcome (List ℕ)
-addressAs true extended h seq = addrRsp seq (h .«ieee_addr») (h .«nwk_addr») false
-addressAs false true h seq = addrRsp seq (h .«ieee_addr») (h .«nwk_addr») true
-addressAs false false h seq = addrRspSingle seq INV-REQUESTTYPE (h .«ieee_addr») (h .«nwk_addr»)
-
--- a request about us, by its type (2.4.3.1.1)
+-- a request about us, by its type: single, extended, and any other is INV_REQUESTTYPE with our two addresses
 unfoldable pub ourAddress : Host → ℕ → ℕ → Outcome (List ℕ)
-ourAddress h seq type = addressAs (eqb type ADDR-REQUEST-SINGLE) (eqb type ADDR-REQUEST-EXTENDED) h seq
+ourAddress h seq type =
+    cond (eqb type ADDR-REQUEST-SINGLE) (addrRsp seq (h .«ieee_addr») (h .«nwk_addr») false)
+    (cond (eqb type ADDR-REQUEST-EXTENDED) (addrRsp seq (h .«ieee_addr») (h .«nwk_addr») true)
+    (addrRspSingle seq INV-REQUESTTYPE (h .«ieee_addr») (h .«nwk_addr»)))
 
 -- 2.4.4.2.1; about another device: DEVICE_NOT_FOUND, the address asked for, and the other all ones
 unfoldable pub onNwkAddr : Host → NwkAddrReq → Outcome (List ℕ)

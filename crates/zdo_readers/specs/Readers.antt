@@ -1,7 +1,7 @@
 -- The readers of replies (document 01, "Reply readers"). A reply that is shorter than its layout needs is refusal 3. Bytes
 -- behind it are ignored, but for the list of an extended address reply, which goes up to the reply's end.
 use Prim.Native.Nat.{ℕ, _+_, _-_, _/_}
-use mathlib.Core.Bool.{Bool, true, false, _&&_}
+use mathlib.Core.Bool.{Bool, true, false, _&&_, cond}
 use mathlib.Core.List.{List, [], _∷_}
 use lib.Dec.{eqb, leb}
 use lib.ListN.{length, drop}
@@ -105,7 +105,7 @@ unfoldable pub matchRspInAs : Bool → List ℕ → Outcome MatchRsp
 matchRspInAs true reply = mapped Matched (listRspIn reply)
 matchRspInAs false reply = parsed (1 ∷ 1 ∷ 1 ∷ []) (λ field. Failed (field 0) (field 1)) reply
 
--- 2.4.4.2.7: the status is byte 1
+-- 2.4.4.2.7: the status is byte 1; a reply that ends before it reads as SUCCESS, and is then too short
 unfoldable pub matchRspIn : List ℕ → Outcome MatchRsp
 matchRspIn reply = matchRspInAs (eqb (numberAt 1 reply 1) SUCCESS) reply
 
@@ -127,16 +127,15 @@ shiftedFields at d =
       «output_clusters» = shifted at (d .«output_clusters»);
     }
 
--- a descriptor of length 0 is none; another, which begins at byte 5, is read within its length
-unfoldable pub simpleWithin : List ℕ → Outcome OptionSimpleDescriptor
-simpleWithin [] = answer simple.None
-simpleWithin (b ∷ bs) = mapped (λ d. simple.Some (shiftedFields 5 d)) (simpleDescriptorIn (b ∷ bs))
+-- a descriptor of length 0 is none; another is read within its length, from byte 5 on
+unfoldable pub simpleWithin : ℕ → List ℕ → Outcome OptionSimpleDescriptor
+simpleWithin len reply = cond (eqb len 0) (answer simple.None) (mapped (λ d. simple.Some (shiftedFields 5 d)) (simpleDescriptorIn (part 5 len reply)))
 
 -- the length is byte 4, and the reply must reach as far
 unfoldable pub simpleIn : List ℕ → Outcome OptionSimpleDescriptor
 simpleIn reply =
     let len = numberAt 1 reply 4 in
-    andThen (needing (5 + len) reply (part 5 len reply)) simpleWithin
+    andThen (needing (5 + len) reply len) (λ n. simpleWithin n reply)
 
 -- 2.4.4.2.5, of any status
 unfoldable pub simpleRspIn : List ℕ → Outcome SimpleRsp

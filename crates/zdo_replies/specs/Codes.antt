@@ -4,7 +4,7 @@ use Rattle.zigbee_types.specs.Statuses.{SUCCESS, INV-REQUESTTYPE, DEVICE-NOT-FO
 use Rattle.zdo_replies.specs.declared.descriptor.BindStatus.{BindStatus}
 use Rattle.zdo_replies.specs.declared.descriptor.BindStatus.the-variants as bind
 use Rattle.zdo_replies.specs.declared.descriptor.DiscoveryError.{DiscoveryError}
-use Rattle.zdo_replies.specs.declared.descriptor.DiscoveryError.the-variants as discovery
+use Rattle.zdo_replies.specs.declared.descriptor.DiscoveryError.the-variants as error
 use Rattle.zdo_replies.specs.declared.management.NlmeLeaveStatus.{NlmeLeaveStatus}
 use Rattle.zdo_replies.specs.declared.management.NlmeLeaveStatus.the-variants as leave
 
@@ -18,8 +18,8 @@ bindCode bind.NotSupported = NOT-SUPPORTED
 
 -- 2.4.4.2
 unfoldable pub discoveryCode : DiscoveryError → ℕ
-discoveryCode discovery.InvalidRequestType = INV-REQUESTTYPE
-discoveryCode discovery.DeviceNotFound = DEVICE-NOT-FOUND
+discoveryCode error.InvalidRequestType = INV-REQUESTTYPE
+discoveryCode error.DeviceNotFound = DEVICE-NOT-FOUND
 
 -- `leave_status` (document 01, "Replies"; 2.4.4.4.5)
 unfoldable pub leaveStatus : NlmeLeaveStatus → ℕ

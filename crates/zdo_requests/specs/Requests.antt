@@ -1,7 +1,7 @@
 -- The ten requests, from bytes to fields (document 01, "Payloads"; 2.4.3). A payload that is shorter than its fields and lists
 -- is refusal 3, and bytes behind them are ignored.
 use Prim.Native.Nat.{ℕ}
-use mathlib.Core.Bool.{Bool, true, false, cond}
+use mathlib.Core.Bool.{cond}
 use mathlib.Core.List.{List, [], _∷_}
 use lib.Dec.{eqb}
 use Rattle.zigbee_types.specs.Outcome.{Outcome, answer, refusal, mapped, needing}
@@ -69,16 +69,20 @@ unfoldable pub bindReqOf : (ℕ → ℕ) → BindReqDestination → BindReq
 bindReqOf field destination =
     record { seq = field 0; «src_address» = ieeeOf (field 1); «src_endpoint» = field 2; «cluster_id» = field 3; destination = destination }
 
--- seq, source address, endpoint, cluster, mode; then, by whether the mode is group and whether it is device: a group
--- address, 15 bytes in all; an IEEE address and an endpoint, 22 bytes in all; any other mode is refusal 3
-unfoldable pub bindReqInAs : Bool → Bool → List ℕ → Outcome BindReq
-bindReqInAs true device payload = parsed (1 ∷ 8 ∷ 1 ∷ 2 ∷ 1 ∷ 2 ∷ []) (λ field. bindReqOf field (Group (groupOf (field 5)))) payload
-bindReqInAs false true payload = parsed (1 ∷ 8 ∷ 1 ∷ 2 ∷ 1 ∷ 8 ∷ 1 ∷ []) (λ field. bindReqOf field (Device (ieeeOf (field 5)) (field 6))) payload
-bindReqInAs false false payload = refusal 3
+-- seq, source address, endpoint, cluster, mode and group: 15 bytes
+unfoldable pub groupReqIn : List ℕ → Outcome BindReq
+groupReqIn = parsed (1 ∷ 8 ∷ 1 ∷ 2 ∷ 1 ∷ 2 ∷ []) (λ field. bindReqOf field (Group (groupOf (field 5))))
 
--- 2.4.3.2.2 and 2.4.3.2.3, bind and unbind: the mode is byte 12; a payload that ends before it reads as mode 0
+-- seq, source address, endpoint, cluster, mode, IEEE address and endpoint: 22 bytes
+unfoldable pub deviceReqIn : List ℕ → Outcome BindReq
+deviceReqIn = parsed (1 ∷ 8 ∷ 1 ∷ 2 ∷ 1 ∷ 8 ∷ 1 ∷ []) (λ field. bindReqOf field (Device (ieeeOf (field 5)) (field 6)))
+
+-- 2.4.3.2.2 and 2.4.3.2.3, bind and unbind, by the mode, which is byte 12; any other mode is refusal 3. A payload that ends
+-- before it reads as mode 0.
 unfoldable pub bindReqIn : List ℕ → Outcome BindReq
-bindReqIn payload = bindReqInAs (eqb (numberAt 1 payload 12) GROUP) (eqb (numberAt 1 payload 12) DEVICE) payload
+bindReqIn payload =
+    let mode = numberAt 1 payload 12 in
+    cond (eqb mode GROUP) (groupReqIn payload) (cond (eqb mode DEVICE) (deviceReqIn payload) (refusal 3))
 
 -- the entry of an endpoint, a cluster and a destination
 unfoldable pub bindingTo : ℕ → ℕ → BindReqDestination → Binding

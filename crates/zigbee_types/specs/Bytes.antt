@@ -17,7 +17,7 @@ unfoldable pub number : List ℕ → ℕ
 number [] = 0
 number (b ∷ bs) = b + 256 * number bs
 
--- the number in the k bytes at a place, of those that are there: past the end it is 0
+-- the number in the k bytes at a place; bytes past the end count as zeros
 unfoldable pub numberAt : ℕ → List ℕ → ℕ → ℕ
 numberAt k bytes at = number (part at k bytes)
 

@@ -52,7 +52,8 @@ parsed widths make bytes = needing (size widths) bytes (make (fieldOf widths byt
 
 -- ---- lists in a frame
 
--- the list whose count is the byte at a place: it stands behind that byte
+-- the list whose count is the byte at a place: it stands behind that byte. Where there is no such byte, the count is 0 and the
+-- list begins past the end.
 unfoldable pub counted : List ℕ → ℕ → Places
 counted bytes at = record { start = at + 1; count = numberAt 1 bytes at }
 
