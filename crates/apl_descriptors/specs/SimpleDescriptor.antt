@@ -5,7 +5,7 @@ use mathlib.Core.List.{List, [], _∷_, _++_, map}
 use lib.Dec.{leb}
 use lib.ListN.{length}
 use Rattle.zigbee_types.specs.Outcome.{Outcome, answer, refusal, needing}
-use Rattle.zigbee_types.specs.Layout.{byte, word, laid, fieldOf, counted, behind}
+use Rattle.zigbee_types.specs.Layout.{Field, byte, word, laid, fieldOf, counted, behind}
 use Rattle.zigbee_types.specs.declared.Places.{Places}
 use Rattle.apl_descriptors.specs.declared.simple_descriptor.SimpleDescriptorFields.{SimpleDescriptorFields}
 
@@ -24,20 +24,29 @@ pub record Endpoint : Type 0 where
 unfoldable pub clusterList : List ℕ → List ℕ
 clusterList clusters = laid (byte (length clusters) ∷ map word clusters)
 
--- endpoint, profile, device, version modulo 16, inputs, outputs
+-- endpoint, profile, device, version modulo 16
+unfoldable pub simpleHeader : Endpoint → List Field
+simpleHeader e = byte (e .endpoint) ∷ word (e .«profile_id») ∷ word (e .«device_id») ∷ byte (e .«device_version» % 16) ∷ []
+
+-- 2.3.2.5: these, then inputs and outputs
 unfoldable pub simpleDescriptor : Endpoint → List ℕ
-simpleDescriptor e =
-    laid (byte (e .endpoint) ∷ word (e .«profile_id») ∷ word (e .«device_id») ∷ byte (e .«device_version» % 16) ∷ [])
-    ++ clusterList (e .«input_clusters»)
-    ++ clusterList (e .«output_clusters»)
+simpleDescriptor e = laid (simpleHeader e) ++ clusterList (e .«input_clusters») ++ clusterList (e .«output_clusters»)
+
+-- how many clusters an endpoint has
+unfoldable pub clusterCount : Endpoint → ℕ
+clusterCount e = length (e .«input_clusters») + length (e .«output_clusters»)
 
 -- refusal 4: a descriptor whose two counts sum to more than 28 is not written
 unfoldable pub simpleWritten : Endpoint → Outcome (List ℕ)
-simpleWritten e = cond (leb (length (e .«input_clusters») + length (e .«output_clusters»)) 28) (answer (simpleDescriptor e)) (refusal 4)
+simpleWritten e = cond (leb (clusterCount e) 28) (answer (simpleDescriptor e)) (refusal 4)
 
 -- ---- reading
 
--- its first fields, then its lists
+-- endpoint, profile, device, version
+unfoldable pub simpleWidths : List ℕ
+simpleWidths = 1 ∷ 2 ∷ 2 ∷ 1 ∷ []
+
+-- a descriptor's first fields, then its lists
 unfoldable pub simpleOf : (ℕ → ℕ) → Places → Places → SimpleDescriptorFields
 simpleOf field inputs outputs =
     record {
@@ -55,4 +64,4 @@ unfoldable pub simpleDescriptorIn : List ℕ → Outcome SimpleDescriptorFields
 simpleDescriptorIn bytes =
     let inputs = counted bytes 6 in
     let outputs = counted bytes (behind 2 inputs) in
-    needing (behind 2 outputs) bytes (simpleOf (fieldOf (1 ∷ 2 ∷ 2 ∷ 1 ∷ []) bytes) inputs outputs)
+    needing (behind 2 outputs) bytes (simpleOf (fieldOf simpleWidths bytes) inputs outputs)

@@ -1,4 +1,4 @@
--- The places of a table after a bind, an unbind and a call that changes nothing. Assumes nothing.
+-- What `placed` leaves where the entries are those held, one more, or one fewer. Assumes nothing.
 use Prim.Native.Nat.{max, _+_, _-_, _≤_}
 use native.Mathlib.Omega.{arith}
 use native.Mathlib.Numerals.{add-one}

@@ -1,5 +1,5 @@
--- What a bind, an unbind and a call that changes nothing leave in the places of a table, as statements. A term of each stands in
--- proofs/.
+-- What `placed` leaves in the places of a table where the entries are those held, one more, or one fewer, as statements. A term
+-- of each stands in proofs/.
 use Prim.Native.Nat.{_+_, _-_, _≤_, _<_}
 use mathlib.Core.Path.{_≡_}
 use mathlib.Core.List.{List, [], _∷_, _++_}

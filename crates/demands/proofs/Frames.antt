@@ -15,15 +15,25 @@ use Rattle.zigbee_types.specs.declared.ShortAddress.{ShortAddress}
 use Rattle.zigbee_types.proofs.Layouts.{laid-counted}
 use Rattle.apl_descriptors.specs.NodeDescriptor.{nodeDescriptor, nodeWidths}
 use Rattle.apl_descriptors.specs.PowerDescriptor.{powerDescriptor, powerWidths}
-use Rattle.apl_descriptors.specs.SimpleDescriptor.{Endpoint, clusterList, simpleDescriptor, simpleWritten}
-use Rattle.zdo_requests.specs.Requests.{nodeDescReq}
-use Rattle.zdo_replies.specs.Replies.{header, addrHeader, nodeDescRsp, powerDescRsp, descriptorRspError, listRsp, emptyRsp, matchDescRspError, describedRsp, addrRsp, addrRspSingle, addrRspExtended, statusRsp}
-use Rattle.zdo_readers.specs.Readers.{headerWidths, addrWidths}
-use Rattle.demands.specs.Frames.{OneLayout, ReplyLengths, clusters}
+use Rattle.apl_descriptors.specs.SimpleDescriptor.{Endpoint, clusterList, clusterCount, simpleHeader, simpleWidths, simpleDescriptor, simpleWritten}
+use Rattle.zdo_requests.specs.Requests.{addrOfInterestWidths, addrOfInterestFields, nodeDescReq}
+use Rattle.zdo_replies.specs.Replies.{header, addrHeader, matchErrorFields, statusFields, nodeDescRsp, powerDescRsp, descriptorRspError, listRsp, emptyRsp, matchDescRspError, describedRsp, addrRsp, addrRspSingle, addrRspExtended, statusRsp}
+use Rattle.zdo_readers.specs.Readers.{headerWidths, addrWidths, matchErrorWidths, statusWidths}
+use Rattle.demands.specs.Frames.{OneLayout, ReplyLengths}
 
 pub one-layout : OneLayout
-unfolding nodeDescriptor nodeWidths powerDescriptor powerWidths header headerWidths addrHeader addrWidths
-one-layout = record { node = λ n. refl; power = λ p. refl; header = λ seq status a. refl; address = λ seq status l a. refl }
+unfolding nodeDescriptor nodeWidths powerDescriptor powerWidths header headerWidths addrHeader addrWidths simpleHeader simpleWidths matchErrorFields matchErrorWidths statusFields statusWidths addrOfInterestFields addrOfInterestWidths
+one-layout =
+    record {
+      node = λ n. refl;
+      power = λ p. refl;
+      header = λ seq status a. refl;
+      address = λ seq status l a. refl;
+      simple = λ e. refl;
+      matchError = λ seq status. refl;
+      status = λ seq status. refl;
+      nodeRequest = λ seq a. refl;
+    }
 
 -- words take two bytes each
 size-words : (xs : List ℕ) → size (widths (map word xs)) ≡ 2 * length xs
@@ -37,26 +47,26 @@ unfolding clusterList size
 length-clusters xs = rw laid-counted (omega (arith, size-words xs))
 
 -- a simple descriptor takes eight bytes and two for each cluster
-pub length-simple : (e : Endpoint) → length (simpleDescriptor e) ≡ 8 + 2 * clusters e
-unfolding simpleDescriptor size
+pub length-simple : (e : Endpoint) → length (simpleDescriptor e) ≡ 8 + 2 * clusterCount e
+unfolding simpleDescriptor simpleHeader clusterCount size
 length-simple e = rw (length-append, length-append, laid-counted, length-clusters, length-clusters) (omega arith)
 
-module _ (seq : ℕ) (a : ShortAddress) (e : Endpoint) (few : clusters e ≤ 28) where
+module _ (seq : ℕ) (a : ShortAddress) (e : Endpoint) (few : clusterCount e ≤ 28) where
   -- the reply is its header, the length, and the descriptor
   described : describedRsp seq a e ≡ answer (laid (header seq SUCCESS a ++ byte (length (simpleDescriptor e)) ∷ []) ++ simpleDescriptor e)
   unfolding describedRsp simpleWritten andThen
   described = rw (le-leb _ _ few)
 
-  described-length : mapped length (describedRsp seq a e) ≡ answer (5 + (8 + 2 * clusters e))
+  described-length : mapped length (describedRsp seq a e) ≡ answer (5 + (8 + 2 * clusterCount e))
   unfolding mapped header size
   described-length = rw (described, length-append, laid-counted, length-simple)
 
-  described-byte : mapped (λ bytes. numberAt 1 bytes 4) (describedRsp seq a e) ≡ answer (8 + 2 * clusters e)
+  described-byte : mapped (λ bytes. numberAt 1 bytes 4) (describedRsp seq a e) ≡ answer (8 + 2 * clusterCount e)
   unfolding mapped header laid le numberAt number
   described-byte = rw (described, length-simple) (ap answer (omega arith))
 
 pub reply-lengths : ReplyLengths
-unfolding mapped nodeDescRsp powerDescRsp descriptorRspError listRsp emptyRsp matchDescRspError addrRsp addrRspSingle addrRspExtended statusRsp nodeDescReq header addrHeader nodeDescriptor powerDescriptor size
+unfolding mapped nodeDescRsp powerDescRsp descriptorRspError listRsp emptyRsp matchDescRspError addrRsp addrRspSingle addrRspExtended statusRsp nodeDescReq header addrHeader matchErrorFields statusFields addrOfInterestFields nodeDescriptor powerDescriptor size
 reply-lengths =
     record {
       node = λ seq a n. ap answer (laid-counted (header seq SUCCESS a ++ nodeDescriptor n));

@@ -1,8 +1,17 @@
 -- What a case is, how it asks our device, and how it shows an outcome as numbers.
-use Prim.Native.Nat.{ℕ}
+use Prim.Native.Nat.{ℕ, _+_}
 use mathlib.Core.List.{List, [], _∷_, _++_}
 use lib.ListN.{drop}
 use Rattle.zigbee_types.specs.Outcome.{Outcome, answer, refusal, andThen}
+use Rattle.apl_descriptors.specs.declared.descriptor.PowerDescriptorConfig.{PowerDescriptorConfig}
+use Rattle.apl_descriptors.specs.declared.node_descriptor.LogicalType.{LogicalType}
+use Rattle.apl_descriptors.specs.declared.node_descriptor.LogicalType.the-variants as type
+use Rattle.apl_descriptors.specs.declared.node_power_descriptor.CurrentPowerMode.{CurrentPowerMode}
+use Rattle.apl_descriptors.specs.declared.node_power_descriptor.CurrentPowerMode.the-variants as mode
+use Rattle.apl_descriptors.specs.declared.node_power_descriptor.PowerSource.{PowerSource}
+use Rattle.apl_descriptors.specs.declared.node_power_descriptor.PowerSource.the-variants as source
+use Rattle.apl_descriptors.specs.declared.node_power_descriptor.CurrentPowerSourceLevel.{CurrentPowerSourceLevel}
+use Rattle.apl_descriptors.specs.declared.node_power_descriptor.CurrentPowerSourceLevel.the-variants as level
 use Rattle.zdo_requests.specs.Requests.{matchDescReqIn}
 use Rattle.zdo_device.specs.Matching.{matchingEndpoints}
 use Rattle.zdo_dispatcher.specs.Host.{Asked}
@@ -14,6 +23,8 @@ pub record Case : Type 0 where
   pub says : List (Outcome (List ℕ))
   pub expected : List (Outcome (List ℕ))
 
+-- ---- asking
+
 -- a request, with a buffer of 128 bytes
 abbrev pub asked : ℕ → List ℕ → Asked
 asked cluster payload = record { cluster = cluster; payload = payload; room = 128 }
@@ -21,6 +32,8 @@ asked cluster payload = record { cluster = cluster; payload = payload; room = 12
 -- the list that a match request finds in our device
 abbrev pub found : List ℕ → Outcome (List ℕ)
 found payload = andThen (matchDescReqIn payload) (λ q. matchingEndpoints ourPools ourDescriptors q payload)
+
+-- ---- showing
 
 -- a reply's cluster, then its bytes; nothing of a leave
 abbrev pub heard : Outcome Answer → Outcome (List ℕ)
@@ -33,6 +46,48 @@ abbrev pub statusOf : Outcome Answer → Outcome (List ℕ)
 statusOf (answer (reply cluster bytes t)) = answer (drop 1 bytes)
 statusOf (answer (leave q)) = answer []
 statusOf (refusal n) = refusal n
+
+-- ---- numbers with names, so that a reserved one is told from a named one: it stands above 256
+
+-- a logical type
+abbrev pub typeShown : LogicalType → ℕ
+typeShown type.Coordinator = 0
+typeShown type.Router = 1
+typeShown type.EndDevice = 2
+typeShown (type.Reserved n) = 256 + n
+
+-- a power mode
+abbrev pub modeShown : CurrentPowerMode → ℕ
+modeShown mode.Synchronized = 0
+modeShown mode.Periodically = 1
+modeShown mode.Stimulated = 2
+modeShown (mode.Reserved n) = 256 + n
+
+-- a power source
+abbrev pub sourceShown : PowerSource → ℕ
+sourceShown source.ConstantMainPower = 1
+sourceShown source.RechargeableBattery = 2
+sourceShown source.DisposableBattery = 4
+sourceShown (source.Reserved n) = 256 + n
+
+-- a power level
+abbrev pub levelShown : CurrentPowerSourceLevel → ℕ
+levelShown level.Critical = 0
+levelShown level.OneThird = 4
+levelShown level.TwoThirds = 8
+levelShown level.Full = 12
+levelShown (level.Reserved n) = 256 + n
+
+-- the four fields of a power descriptor
+abbrev pub powerShown : PowerDescriptorConfig → List ℕ
+powerShown p =
+    modeShown (p .«current_power_mode»)
+    ∷ p .«available_power_sources»
+    ∷ sourceShown (p .«current_power_source»)
+    ∷ levelShown (p .«current_power_source_level»)
+    ∷ []
+
+-- ---- requests to bind
 
 -- seq, source address, endpoint and cluster of K10's bind request
 abbrev pub bindHead : List ℕ

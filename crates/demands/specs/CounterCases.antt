@@ -6,20 +6,18 @@ use lib.ListN.{length, take, replicate}
 use Rattle.zigbee_types.specs.Outcome.{Outcome, answer, refusal, andThen, mapped, fitted, begunLength, begun}
 use Rattle.zigbee_types.specs.Layout.{laid}
 use Rattle.apl_descriptors.specs.NodeDescriptor.{defaultNode, nodeDescriptor}
-use Rattle.apl_descriptors.specs.PowerDescriptor.{modeBits, sourceBits, levelBits, powerDescriptor, powerDescriptorIn, powerFields}
-use Rattle.apl_descriptors.specs.declared.descriptor.PowerDescriptorConfig.{PowerDescriptorConfig}
+use Rattle.apl_descriptors.specs.PowerDescriptor.{powerDescriptor, powerDescriptorIn, powerFields}
 use Rattle.aps_binding.specs.Table.{emptyTable}
 use Rattle.zdo_replies.specs.Replies.{nodeDescRsp}
 use Rattle.zdo_readers.specs.Readers.{nodeDescRspIn, stackRevisionOf}
 use Rattle.zdo_readers.specs.declared.descriptor.OptionStackRevision.{OptionStackRevision}
 use Rattle.zdo_readers.specs.declared.descriptor.OptionStackRevision.the-variants.{Some, None}
-use Rattle.zdo_device.specs.Tables.{Pools}
 use Rattle.zdo_device.specs.TableReplies.{simpleDescRsp}
 use Rattle.zdo_device.specs.declared.descriptor.DeviceDescriptorConfig.{DeviceDescriptorConfig}
 use Rattle.zdo_dispatcher.specs.Host.{Asked}
 use Rattle.zdo_dispatcher.specs.Answers.{answered, run, runTable}
 use Rattle.demands.specs.OurDevice.{ourNode, ourPower, ourPools, ourDescriptors, ours}
-use Rattle.demands.specs.Cases.{Case, asked, found, heard, statusOf, bindA, bindB, bindC}
+use Rattle.demands.specs.Cases.{Case, asked, found, heard, statusOf, powerShown, bindA, bindB, bindC}
 
 -- K1: a node reply with room, and in a buffer of 16 bytes
 unfoldable pub K1 : Case
@@ -51,23 +49,14 @@ K2 =
 unfoldable pub K3 : Case
 K3 = record { says = answer (take 1 (laid (nodeDescriptor defaultNode))) ∷ []; expected = answer (0x01 ∷ []) ∷ [] }
 
--- the four fields of a power descriptor as numbers
-abbrev pub powerNumbers : PowerDescriptorConfig → List ℕ
-powerNumbers p =
-    modeBits (p .«current_power_mode»)
-    ∷ p .«available_power_sources»
-    ∷ sourceBits (p .«current_power_source»)
-    ∷ levelBits (p .«current_power_source_level»)
-    ∷ []
-
 -- K4: power bytes that are read, as mode, sources, source and level; and two that are refused. Our device writes the first.
 unfoldable pub K4 : Case
 K4 =
     record {
       says =
-          mapped (λ d. powerNumbers (powerFields d)) (powerDescriptorIn (0x42 ∷ 0x84 ∷ []))
-          ∷ mapped (λ d. powerNumbers (powerFields d)) (powerDescriptorIn (0x22 ∷ 0x84 ∷ []))
-          ∷ mapped (λ d. powerNumbers (powerFields d)) (powerDescriptorIn (0x32 ∷ 0x83 ∷ []))
+          mapped (λ d. powerShown (powerFields d)) (powerDescriptorIn (0x42 ∷ 0x84 ∷ []))
+          ∷ mapped (λ d. powerShown (powerFields d)) (powerDescriptorIn (0x22 ∷ 0x84 ∷ []))
+          ∷ mapped (λ d. powerShown (powerFields d)) (powerDescriptorIn (0x32 ∷ 0x83 ∷ []))
           ∷ answer (laid (powerDescriptor ourPower))
           ∷ [];
       expected = answer (2 ∷ 4 ∷ 4 ∷ 8 ∷ []) ∷ refusal 3 ∷ refusal 3 ∷ answer (0x42 ∷ 0x84 ∷ []) ∷ [];

@@ -12,31 +12,31 @@ use Rattle.zigbee_types.specs.declared.IeeeAddress.{IeeeAddress}
 use Rattle.zigbee_types.specs.declared.ShortAddress.{ShortAddress}
 use Rattle.apl_descriptors.specs.NodeDescriptor.{nodeDescriptor, nodeWidths}
 use Rattle.apl_descriptors.specs.PowerDescriptor.{powerDescriptor, powerWidths}
-use Rattle.apl_descriptors.specs.SimpleDescriptor.{Endpoint}
+use Rattle.apl_descriptors.specs.SimpleDescriptor.{Endpoint, clusterCount, simpleHeader, simpleWidths}
 use Rattle.apl_descriptors.specs.declared.descriptor.NodeDescriptorConfig.{NodeDescriptorConfig}
 use Rattle.apl_descriptors.specs.declared.descriptor.PowerDescriptorConfig.{PowerDescriptorConfig}
-use Rattle.zdo_requests.specs.Requests.{nodeDescReq}
-use Rattle.zdo_replies.specs.Replies.{header, addrHeader, nodeDescRsp, powerDescRsp, descriptorRspError, listRsp, emptyRsp, matchDescRspError, describedRsp, addrRsp, addrRspSingle, statusRsp}
-use Rattle.zdo_readers.specs.Readers.{headerWidths, addrWidths}
+use Rattle.zdo_requests.specs.Requests.{addrOfInterestWidths, addrOfInterestFields, nodeDescReq}
+use Rattle.zdo_replies.specs.Replies.{header, addrHeader, matchErrorFields, statusFields, nodeDescRsp, powerDescRsp, descriptorRspError, listRsp, emptyRsp, matchDescRspError, describedRsp, addrRsp, addrRspSingle, statusRsp}
+use Rattle.zdo_readers.specs.Readers.{headerWidths, addrWidths, matchErrorWidths, statusWidths}
 
--- a reader and a writer of one frame have one table of widths
+-- where a frame, or the front of one, has a reader and a writer, both have one table of widths
 pub record OneLayout : Type 0 where
   pub node : (n : NodeDescriptorConfig) → widths (nodeDescriptor n) ≡ nodeWidths
   pub power : (p : PowerDescriptorConfig) → widths (powerDescriptor p) ≡ powerWidths
   pub header : (seq status : ℕ) (a : ShortAddress) → widths (header seq status a) ≡ headerWidths
   pub address : (seq status : ℕ) (l : IeeeAddress) (a : ShortAddress) → widths (addrHeader seq status l a) ≡ addrWidths
-
--- how many clusters an endpoint has
-abbrev pub clusters : Endpoint → ℕ
-clusters e = length (e .«input_clusters») + length (e .«output_clusters»)
+  pub simple : (e : Endpoint) → widths (simpleHeader e) ≡ simpleWidths
+  pub matchError : (seq status : ℕ) → widths (matchErrorFields seq status) ≡ matchErrorWidths
+  pub status : (seq status : ℕ) → widths (statusFields seq status) ≡ statusWidths
+  pub nodeRequest : (seq : ℕ) (a : ShortAddress) → widths (addrOfInterestFields seq a) ≡ addrOfInterestWidths
 
 -- document 01, "Replies": the length of each reply, and what the length byte of a simple reply says
 pub record ReplyLengths : Type 0 where
   pub node : (seq : ℕ) (a : ShortAddress) (n : NodeDescriptorConfig) → mapped length (nodeDescRsp seq a n) ≡ answer 17
   pub power : (seq : ℕ) (a : ShortAddress) (p : PowerDescriptorConfig) → mapped length (powerDescRsp seq a p) ≡ answer 6
   pub list : (seq : ℕ) (a : ShortAddress) (xs : List ℕ) → mapped length (listRsp seq a xs) ≡ answer (5 + length xs)
-  pub simple : (seq : ℕ) (a : ShortAddress) (e : Endpoint) → clusters e ≤ 28 → mapped length (describedRsp seq a e) ≡ answer (5 + (8 + 2 * clusters e))
-  pub lengthByte : (seq : ℕ) (a : ShortAddress) (e : Endpoint) → clusters e ≤ 28 → mapped (λ bytes. numberAt 1 bytes 4) (describedRsp seq a e) ≡ answer (8 + 2 * clusters e)
+  pub simple : (seq : ℕ) (a : ShortAddress) (e : Endpoint) → clusterCount e ≤ 28 → mapped length (describedRsp seq a e) ≡ answer (5 + (8 + 2 * clusterCount e))
+  pub lengthByte : (seq : ℕ) (a : ShortAddress) (e : Endpoint) → clusterCount e ≤ 28 → mapped (λ bytes. numberAt 1 bytes 4) (describedRsp seq a e) ≡ answer (8 + 2 * clusterCount e)
   pub single : (seq : ℕ) (l : IeeeAddress) (a : ShortAddress) → mapped length (addrRsp seq l a false) ≡ answer 12
   pub extended : (seq : ℕ) (l : IeeeAddress) (a : ShortAddress) → mapped length (addrRsp seq l a true) ≡ answer 14
   pub addressError : (seq status : ℕ) (l : IeeeAddress) (a : ShortAddress) → mapped length (addrRspSingle seq status l a) ≡ answer 12

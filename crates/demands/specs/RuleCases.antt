@@ -1,16 +1,18 @@
 -- A case for each group of document 01's rules that K1 to K11 leave out. What the definitions say stands on one side, and the
 -- bytes and numbers that document 01's sentences give, as literals, on the other.
 use Prim.Native.Nat.{ℕ}
-use mathlib.Core.Bool.{Bool, true, false}
+use mathlib.Core.Bool.{true, false}
 use mathlib.Core.List.{List, [], _∷_, _++_, map}
 use lib.ListN.{length, take, drop, replicate}
+use Rattle.zigbee_types.specs.Refusals.{refusalNumber}
+use Rattle.zigbee_types.specs.declared.Refusal.the-variants.{BadTables, UnknownCluster, Malformed, TooManyClusters, ShortBuffer}
 use Rattle.zigbee_types.specs.Bytes.{bit, bitAt}
 use Rattle.zigbee_types.specs.Outcome.{Outcome, answer, refusal, mapped, fitted, written}
 use Rattle.zigbee_types.specs.Layout.{laid}
 use Rattle.zigbee_types.specs.Addresses.{ieeeOf, shortOf, groupOf}
 use Rattle.zigbee_types.specs.declared.Places.{Places}
-use Rattle.apl_descriptors.specs.NodeDescriptor.{typeNumber, nodeDescriptor, nodeDescriptorIn, nodeFields}
-use Rattle.apl_descriptors.specs.PowerDescriptor.{modeBits, sourceBits, levelBits, sourceBitmap, powerDescriptor, supports}
+use Rattle.apl_descriptors.specs.NodeDescriptor.{nodeDescriptor, nodeDescriptorIn, nodeFields}
+use Rattle.apl_descriptors.specs.PowerDescriptor.{sourceBitmap, powerDescriptor, powerDescriptorIn, powerFields, supports}
 use Rattle.apl_descriptors.specs.Flags.{frequencyBandFlag, macCapabilityFlag, serverMaskFlag, descriptorCapabilityFlag}
 use Rattle.apl_descriptors.specs.SimpleDescriptor.{simpleDescriptorIn}
 use Rattle.apl_descriptors.specs.declared.descriptor.NodeDescriptorConfig.{NodeDescriptorConfig}
@@ -23,7 +25,6 @@ use Rattle.apl_descriptors.specs.declared.node_descriptor.DescriptorCapabilityF
 use Rattle.apl_descriptors.specs.declared.node_power_descriptor.CurrentPowerMode.the-variants as mode
 use Rattle.apl_descriptors.specs.declared.node_power_descriptor.PowerSource.the-variants as source
 use Rattle.apl_descriptors.specs.declared.node_power_descriptor.CurrentPowerSourceLevel.the-variants as level
-use Rattle.apl_descriptors.specs.declared.simple_descriptor.SimpleDescriptorFields.{SimpleDescriptorFields}
 use Rattle.aps_binding.specs.Entry.{groupBinding, deviceBinding, unused, routes, key}
 use Rattle.aps_binding.specs.Table.{Linked, emptyTable, createBindingLink, removeBindingLink}
 use Rattle.aps_binding.specs.declared.binding.BindingTable.{BindingTable}
@@ -35,9 +36,9 @@ use Rattle.zdo_requests.specs.declared.descriptor.OptionIeeeAddress.the-variant
 use Rattle.zdo_replies.specs.Codes.{bindCode, discoveryCode, leaveStatus}
 use Rattle.zdo_replies.specs.Replies.{listRsp}
 use Rattle.zdo_replies.specs.declared.descriptor.BindStatus.the-variants as bind
-use Rattle.zdo_replies.specs.declared.descriptor.DiscoveryError.the-variants as discovery
+use Rattle.zdo_replies.specs.declared.descriptor.DiscoveryError.the-variants as error
 use Rattle.zdo_replies.specs.declared.management.NlmeLeaveStatus.the-variants as leaving
-use Rattle.zdo_readers.specs.Readers.{nodeRspIn, powerRspIn, nodeDescRspIn, listRspIn, matchRspIn, simpleRspIn, addrRspIn, statusRspIn}
+use Rattle.zdo_readers.specs.Readers.{nodeReplyIn, powerReplyIn, nodeDescRspIn, listReplyIn, matchReplyIn, simpleReplyIn, addrReplyIn, statusReplyIn}
 use Rattle.zdo_readers.specs.declared.descriptor.OptionServerMask.{OptionServerMask}
 use Rattle.zdo_readers.specs.declared.descriptor.OptionServerMask.the-variants as mask
 use Rattle.zdo_readers.specs.declared.readers.OptionNodeDescriptor.{OptionNodeDescriptor}
@@ -46,8 +47,8 @@ use Rattle.zdo_readers.specs.declared.readers.OptionPowerDescriptor.{OptionPowe
 use Rattle.zdo_readers.specs.declared.readers.OptionPowerDescriptor.the-variants as power
 use Rattle.zdo_readers.specs.declared.readers.OptionSimpleDescriptor.{OptionSimpleDescriptor}
 use Rattle.zdo_readers.specs.declared.readers.OptionSimpleDescriptor.the-variants as simple
-use Rattle.zdo_readers.specs.declared.readers.MatchRsp.{MatchRsp}
-use Rattle.zdo_readers.specs.declared.readers.MatchRsp.the-variants.{Matched, Failed}
+use Rattle.zdo_readers.specs.declared.readers.MatchReply.{MatchReply}
+use Rattle.zdo_readers.specs.declared.readers.MatchReply.the-variants.{Matched, Failed}
 use Rattle.zdo_readers.specs.declared.readers.OptionAssociated.{OptionAssociated}
 use Rattle.zdo_readers.specs.declared.readers.OptionAssociated.the-variants as associated
 use Rattle.zdo_device.specs.Tables.{Pools, endpointClusters}
@@ -56,19 +57,29 @@ use Rattle.zdo_device.specs.TableReplies.{activeEpRsp, simpleDescRsp}
 use Rattle.zdo_device.specs.declared.descriptor.DeviceDescriptorConfig.{DeviceDescriptorConfig}
 use Rattle.zdo_device.specs.declared.descriptor.Side.the-variants.{Input, Output}
 use Rattle.zdo_dispatcher.specs.Host.{Asked, asking}
-use Rattle.zdo_dispatcher.specs.Answers.{Told, replied, left, toldOf, answered, bufferAfter, run, runTable}
-use Rattle.demands.specs.OurDevice.{ourNode, ourPower, ourPools, ourDescriptors, ours}
-use Rattle.demands.specs.Cases.{Case, asked, heard, statusOf, bindHead, bindA, bindB, bindC}
+use Rattle.zdo_dispatcher.specs.Answers.{Told, replied, leaving, toldOf, answered, bufferAfter, run, runTable}
+use Rattle.demands.specs.OurDevice.{ourNode, ourPower, endpoint1, endpoint2, ourPools, ourDescriptors, ours}
+use Rattle.demands.specs.Cases.{Case, asked, found, heard, statusOf, typeShown, powerShown, bindHead, bindA, bindB, bindC}
+
+-- ---- asking our device
+
+-- what it replies to a request, with a binding table and a room
+abbrev pub tried : BindingTable → ℕ → List ℕ → ℕ → Outcome (List ℕ)
+tried t cluster payload room = heard (answered ours t (record { cluster = cluster; payload = payload; room = room }))
+
+-- what it replies with an empty table and a buffer of 128 bytes
+abbrev pub replies : ℕ → List ℕ → Outcome (List ℕ)
+replies cluster payload = tried (emptyTable 32) cluster payload 128
+
+-- a binding table of zeros, with a limit and a count
+abbrev pub counting : ℕ → ℕ → BindingTable
+counting limit count = record { entries = emptyTable 32 .entries; limit = limit; count = count }
 
 -- ---- addresses
 
 -- a NWK_addr_req for our IEEE address, of a type
 abbrev pub nwkAddr : ℕ → List ℕ
 nwkAddr kind = 0x07 ∷ 0x08 ∷ 0x07 ∷ 0x06 ∷ 0x05 ∷ 0x04 ∷ 0x03 ∷ 0x02 ∷ 0x01 ∷ kind ∷ []
-
--- what our device replies to a request
-abbrev pub replies : ℕ → List ℕ → Outcome (List ℕ)
-replies cluster payload = heard (answered ours (emptyTable 32) (asked cluster payload))
 
 -- single, extended, another type, another device; one byte short
 unfoldable pub NwkAddr : Case
@@ -108,7 +119,7 @@ IeeeAddr =
 
 -- ---- another short address
 
--- our node with another type
+-- a node of a type, with its complex bit, a band of six bits and two different sizes
 abbrev pub nodeOf : LogicalType → NodeDescriptorConfig
 nodeOf t =
     record {
@@ -187,6 +198,66 @@ Ours =
           ∷ [];
     }
 
+-- another profile; 0xFFFF with an input that both endpoints have; an output; an output asked for as an input; the second of two
+-- inputs
+unfoldable pub Matching : Case
+Matching =
+    record {
+      says =
+          found (0x09 ∷ 0x34 ∷ 0x12 ∷ 0x05 ∷ 0x01 ∷ 0x01 ∷ 0x00 ∷ 0x00 ∷ 0x00 ∷ [])
+          ∷ found (0x09 ∷ 0x34 ∷ 0x12 ∷ 0xFF ∷ 0xFF ∷ 0x01 ∷ 0x00 ∷ 0x00 ∷ 0x00 ∷ [])
+          ∷ found (0x09 ∷ 0x34 ∷ 0x12 ∷ 0x04 ∷ 0x01 ∷ 0x00 ∷ 0x01 ∷ 0x19 ∷ 0x00 ∷ [])
+          ∷ found (0x09 ∷ 0x34 ∷ 0x12 ∷ 0x04 ∷ 0x01 ∷ 0x01 ∷ 0x19 ∷ 0x00 ∷ 0x00 ∷ [])
+          ∷ found (0x09 ∷ 0x34 ∷ 0x12 ∷ 0x04 ∷ 0x01 ∷ 0x02 ∷ 0x19 ∷ 0x00 ∷ 0x00 ∷ 0x05 ∷ 0x00 ∷ [])
+          ∷ [];
+      expected = answer [] ∷ answer (1 ∷ 2 ∷ []) ∷ answer (1 ∷ []) ∷ answer [] ∷ answer (2 ∷ []) ∷ [];
+    }
+
+-- a match request of one input and no outputs, which are said to stand at places
+abbrev pub standing : ℕ → ℕ → MatchDescReq
+standing inputs outputs =
+    record {
+      seq = 9;
+      «nwk_addr_of_interest» = shortOf 0x1234;
+      «profile_id» = 0x0104;
+      «input_clusters» = record { start = inputs; count = 1 };
+      «output_clusters» = record { start = outputs; count = 0 };
+    }
+
+-- endpoint 2, and then endpoint 1 under the same number
+abbrev pub twice : DeviceDescriptorConfig
+twice =
+    record {
+      node = ourNode;
+      power = ourPower;
+      endpoints =
+          endpoint2
+          ∷ record { endpoint = 2; «device_version» = 0x11; «profile_id» = 0x0104; «device_id» = 0x0302; «input_start» = 0; «input_count» = 2; «output_start» = 0; «output_count» = 1 }
+          ∷ replicate 30 endpoint1;
+      «endpoint_count» = 2;
+    }
+
+-- the first record answers for a number, in a simple reply and for its part of a pool; both stand in the active list, and
+-- both match; a record behind the count answers for nothing
+unfoldable pub Repeated : Case
+Repeated =
+    record {
+      says =
+          simpleDescRsp 7 (shortOf 0x1234) ourPools twice 2
+          ∷ answer (endpointClusters ourPools twice Input 2)
+          ∷ activeEpRsp 7 (shortOf 0x1234) twice
+          ∷ matchingEndpoints ourPools twice (standing 0 2) (0x00 ∷ 0x00 ∷ [])
+          ∷ simpleDescRsp 7 (shortOf 0x1234) ourPools twice 1
+          ∷ [];
+      expected =
+          answer (0x07 ∷ 0x00 ∷ 0x34 ∷ 0x12 ∷ 0x0C ∷ 0x02 ∷ 0x04 ∷ 0x01 ∷ 0x02 ∷ 0x04 ∷ 0x00 ∷ 0x02 ∷ 0x00 ∷ 0x00 ∷ 0x00 ∷ 0x05 ∷ 0x00 ∷ [])
+          ∷ answer (0x0000 ∷ 0x0500 ∷ [])
+          ∷ answer (0x07 ∷ 0x00 ∷ 0x34 ∷ 0x12 ∷ 0x02 ∷ 0x02 ∷ 0x02 ∷ [])
+          ∷ answer (2 ∷ 2 ∷ [])
+          ∷ answer (0x07 ∷ 0x83 ∷ 0x34 ∷ 0x12 ∷ 0x00 ∷ [])
+          ∷ [];
+    }
+
 -- a list of 256 endpoints: its count, and its length in all
 unfoldable pub LongList : Case
 LongList =
@@ -260,28 +331,20 @@ Shifting =
 
 -- ---- the order of refusals
 
--- what our device replies to a request, with a binding table and a room
-abbrev pub tried : BindingTable → ℕ → List ℕ → ℕ → Outcome (List ℕ)
-tried t cluster payload room = heard (answered ours t (record { cluster = cluster; payload = payload; room = room }))
-
--- a binding table of zeros, with a limit and a count
-abbrev pub counting : ℕ → ℕ → BindingTable
-counting limit count = record { entries = emptyTable 32 .entries; limit = limit; count = count }
-
 -- a limit of 33 and a count above the limit, before an unknown cluster; that before a short payload; a short payload before a
 -- short buffer; a short buffer; a leave with no buffer
-unfoldable pub Refusals : Case
-Refusals =
+unfoldable pub RefusalOrder : Case
+RefusalOrder =
     record {
       says =
-          tried (counting 33 0) 0x0007 [] 0
+          tried (emptyTable 33) 0x0007 [] 0
           ∷ tried (counting 1 2) 0x0007 [] 0
           ∷ tried (counting 32 32) 0x0007 [] 0
-          ∷ tried (counting 32 0) 0x0005 (0x07 ∷ 0x34 ∷ []) 0
-          ∷ tried (counting 32 0) 0x0005 (0x07 ∷ 0x34 ∷ 0x12 ∷ []) 6
-          ∷ tried (counting 32 0) 0x0005 (0x07 ∷ 0x34 ∷ 0x12 ∷ []) 7
-          ∷ tried (counting 32 0) 0x0034 (replicate 10 0x00) 0
-          ∷ tried (counting 32 0) 0x0034 (replicate 9 0x00) 0
+          ∷ tried (emptyTable 32) 0x0005 (0x07 ∷ 0x34 ∷ []) 0
+          ∷ tried (emptyTable 32) 0x0005 (0x07 ∷ 0x34 ∷ 0x12 ∷ []) 6
+          ∷ tried (emptyTable 32) 0x0005 (0x07 ∷ 0x34 ∷ 0x12 ∷ []) 7
+          ∷ tried (emptyTable 32) 0x0034 (replicate 10 0x00) 0
+          ∷ tried (emptyTable 32) 0x0034 (replicate 9 0x00) 0
           ∷ [];
       expected =
           refusal 1
@@ -322,7 +385,7 @@ Left =
 -- what is told of an answer
 abbrev pub toldNumbers : Told → List ℕ
 toldNumbers (replied cluster n) = cluster ∷ n ∷ []
-toldNumbers (left q) = q .seq ∷ []
+toldNumbers (leaving q) = q .seq ∷ []
 
 -- a reply is told by its cluster and length, a leave by its request; the room is the length of the buffer
 unfoldable pub Telling : Case
@@ -342,21 +405,10 @@ Telling =
 abbrev pub ofCount : ℕ → DeviceDescriptorConfig
 ofCount n = record { node = ourNode; power = ourPower; endpoints = ourDescriptors .endpoints; «endpoint_count» = n }
 
--- a match request for input 0x0402, whose lists are said to stand at places
-abbrev pub standing : ℕ → ℕ → MatchDescReq
-standing inputs outputs =
-    record {
-      seq = 9;
-      «nwk_addr_of_interest» = shortOf 0x1234;
-      «profile_id» = 0x0104;
-      «input_clusters» = record { start = inputs; count = 1 };
-      «output_clusters» = record { start = outputs; count = 0 };
-    }
-
 -- a count of 33, of each function that takes it; a pool of 513 clusters, and one that a record runs past; places that end with
 -- the payload, and one past it, of inputs and of outputs
-unfoldable pub Tables : Case
-Tables =
+unfoldable pub TableChecks : Case
+TableChecks =
     record {
       says =
           activeEpRsp 7 (shortOf 0x1234) (ofCount 33)
@@ -388,17 +440,19 @@ Tables =
 abbrev pub linkNumbers : Linked → List ℕ
 linkNumbers l = l .status ∷ l .table .count ∷ l .table .limit ∷ joined (map key (take 1 (l .table .entries)))
 
--- a table of zeros that holds some of them; binding and unbinding zeros' group binding, with room, full, bad and empty
+-- of a table of zeros of which some are held: a device binding is bound with room, in a full table and in an empty one; the
+-- group binding of zeros is bound with a limit of 33, and unbound where it is held, where nothing is, and with a count above
+-- the limit
 unfoldable pub Links : Case
 Links =
     record {
       says =
           mapped linkNumbers (createBindingLink (counting 2 1) (deviceBinding 1 0x0402 (ieeeOf 9) 2))
           ∷ mapped linkNumbers (createBindingLink (counting 1 1) (deviceBinding 1 0x0402 (ieeeOf 9) 2))
-          ∷ mapped linkNumbers (createBindingLink (counting 1 0) (deviceBinding 1 0x0402 (ieeeOf 9) 2))
-          ∷ mapped linkNumbers (createBindingLink (counting 33 0) unused)
+          ∷ mapped linkNumbers (createBindingLink (emptyTable 1) (deviceBinding 1 0x0402 (ieeeOf 9) 2))
+          ∷ mapped linkNumbers (createBindingLink (emptyTable 33) unused)
           ∷ mapped linkNumbers (removeBindingLink (counting 1 1) unused)
-          ∷ mapped linkNumbers (removeBindingLink (counting 1 0) unused)
+          ∷ mapped linkNumbers (removeBindingLink (emptyTable 1) unused)
           ∷ mapped linkNumbers (removeBindingLink (counting 1 2) unused)
           ∷ [];
       expected =
@@ -424,8 +478,8 @@ abbrev pub leaveNumbers : MgmtLeaveReq → List ℕ
 leaveNumbers q = q .seq ∷ bit (q .«remove_children») ∷ bit (q .rejoin) ∷ someAddress (q .«device_address»)
 
 -- no address and bit 6; an address and all but bit 6. The address of interest of a node request.
-unfoldable pub Leave : Case
-Leave =
+unfoldable pub LeaveRequest : Case
+LeaveRequest =
     record {
       says =
           mapped leaveNumbers (mgmtLeaveReqIn (0x07 ∷ replicate 8 0x00 ++ 0x40 ∷ []))
@@ -458,18 +512,18 @@ someMask mask.None = []
 
 -- a node reply and 16 bytes of it; one of another status; its mask at 14 bytes and at 13, and with another status; a power
 -- reply, and one of another status
-unfoldable pub Descriptors : Case
-Descriptors =
+unfoldable pub ReadDescriptors : Case
+ReadDescriptors =
     record {
       says =
-          mapped (λ r. r .header .seq ∷ r .header .status ∷ r .header .«nwk_addr_of_interest» .0 ∷ maker (r .descriptor)) (nodeRspIn nodeReply)
-          ∷ mapped (λ r. maker (r .descriptor)) (nodeRspIn (take 16 nodeReply))
-          ∷ mapped (λ r. maker (r .descriptor)) (nodeRspIn (0x07 ∷ 0x81 ∷ 0x34 ∷ 0x12 ∷ []))
+          mapped (λ r. r .header .seq ∷ r .header .status ∷ r .header .«nwk_addr_of_interest» .0 ∷ maker (r .descriptor)) (nodeReplyIn nodeReply)
+          ∷ mapped (λ r. maker (r .descriptor)) (nodeReplyIn (take 16 nodeReply))
+          ∷ mapped (λ r. maker (r .descriptor)) (nodeReplyIn (0x07 ∷ 0x81 ∷ 0x34 ∷ 0x12 ∷ []))
           ∷ mapped (λ r. someMask (r .«server_mask»)) (nodeDescRspIn (take 14 nodeReply))
           ∷ mapped (λ r. someMask (r .«server_mask»)) (nodeDescRspIn (take 13 nodeReply))
           ∷ mapped (λ r. someMask (r .«server_mask»)) (nodeDescRspIn (0x07 ∷ 0x81 ∷ drop 2 nodeReply))
-          ∷ mapped (λ r. powerBytes (r .descriptor)) (powerRspIn (0x07 ∷ 0x00 ∷ 0x34 ∷ 0x12 ∷ 0x42 ∷ 0x84 ∷ []))
-          ∷ mapped (λ r. powerBytes (r .descriptor)) (powerRspIn (0x07 ∷ 0x80 ∷ 0x34 ∷ 0x12 ∷ 0x22 ∷ 0x84 ∷ []))
+          ∷ mapped (λ r. powerBytes (r .descriptor)) (powerReplyIn (0x07 ∷ 0x00 ∷ 0x34 ∷ 0x12 ∷ 0x42 ∷ 0x84 ∷ []))
+          ∷ mapped (λ r. powerBytes (r .descriptor)) (powerReplyIn (0x07 ∷ 0x80 ∷ 0x34 ∷ 0x12 ∷ 0x22 ∷ 0x84 ∷ []))
           ∷ [];
       expected =
           answer (7 ∷ 0 ∷ 0x1234 ∷ 0xABCD ∷ [])
@@ -488,21 +542,21 @@ abbrev pub places : Places → List ℕ
 places p = p .start ∷ p .count ∷ []
 
 -- of a match reply seq, address and list; of a failed one seq and status
-abbrev pub matchNumbers : MatchRsp → List ℕ
+abbrev pub matchNumbers : MatchReply → List ℕ
 matchNumbers (Matched r) = r .header .seq ∷ r .header .«nwk_addr_of_interest» .0 ∷ places (r .endpoints)
 matchNumbers (Failed seq status) = seq ∷ status ∷ []
 
 -- an active reply, whole and one short; a match reply, and one of another status, of three bytes and of two; a bind reply
-unfoldable pub Lists : Case
-Lists =
+unfoldable pub ReadLists : Case
+ReadLists =
     record {
       says =
-          mapped (λ r. places (r .endpoints)) (listRspIn (0x07 ∷ 0x00 ∷ 0x34 ∷ 0x12 ∷ 0x02 ∷ 0x01 ∷ 0x02 ∷ []))
-          ∷ mapped (λ r. places (r .endpoints)) (listRspIn (0x07 ∷ 0x00 ∷ 0x34 ∷ 0x12 ∷ 0x02 ∷ 0x01 ∷ []))
-          ∷ mapped matchNumbers (matchRspIn (0x09 ∷ 0x00 ∷ 0x34 ∷ 0x12 ∷ 0x01 ∷ 0x01 ∷ []))
-          ∷ mapped matchNumbers (matchRspIn (0x09 ∷ 0x80 ∷ 0x05 ∷ []))
-          ∷ mapped matchNumbers (matchRspIn (0x09 ∷ 0x80 ∷ []))
-          ∷ mapped (λ r. r .seq ∷ r .status ∷ []) (statusRspIn (0x0A ∷ 0x8C ∷ []))
+          mapped (λ r. places (r .endpoints)) (listReplyIn (0x07 ∷ 0x00 ∷ 0x34 ∷ 0x12 ∷ 0x02 ∷ 0x01 ∷ 0x02 ∷ []))
+          ∷ mapped (λ r. places (r .endpoints)) (listReplyIn (0x07 ∷ 0x00 ∷ 0x34 ∷ 0x12 ∷ 0x02 ∷ 0x01 ∷ []))
+          ∷ mapped matchNumbers (matchReplyIn (0x09 ∷ 0x00 ∷ 0x34 ∷ 0x12 ∷ 0x01 ∷ 0x01 ∷ []))
+          ∷ mapped matchNumbers (matchReplyIn (0x09 ∷ 0x80 ∷ 0x05 ∷ []))
+          ∷ mapped matchNumbers (matchReplyIn (0x09 ∷ 0x80 ∷ []))
+          ∷ mapped (λ r. r .seq ∷ r .status ∷ []) (statusReplyIn (0x0A ∷ 0x8C ∷ []))
           ∷ [];
       expected =
           answer (5 ∷ 2 ∷ [])
@@ -526,15 +580,15 @@ simpleBytes = 0x01 ∷ 0x04 ∷ 0x01 ∷ 0x02 ∷ 0x03 ∷ 0x11 ∷ 0x01 ∷ 0x0
 
 -- alone; in a reply of another status, with a byte to spare; with a length one short; with a length one past the reply; with
 -- length 0
-unfoldable pub Simple : Case
-Simple =
+unfoldable pub ReadSimple : Case
+ReadSimple =
     record {
       says =
           mapped (λ d. simpleNumbers (simple.Some d)) (simpleDescriptorIn simpleBytes)
-          ∷ mapped (λ r. simpleNumbers (r .descriptor)) (simpleRspIn (0x07 ∷ 0x83 ∷ 0x34 ∷ 0x12 ∷ 0x0B ∷ simpleBytes ++ 0x00 ∷ []))
-          ∷ mapped (λ r. simpleNumbers (r .descriptor)) (simpleRspIn (0x07 ∷ 0x00 ∷ 0x34 ∷ 0x12 ∷ 0x09 ∷ simpleBytes))
-          ∷ mapped (λ r. simpleNumbers (r .descriptor)) (simpleRspIn (0x07 ∷ 0x00 ∷ 0x34 ∷ 0x12 ∷ 0x0B ∷ simpleBytes))
-          ∷ mapped (λ r. simpleNumbers (r .descriptor)) (simpleRspIn (0x07 ∷ 0x83 ∷ 0x34 ∷ 0x12 ∷ 0x00 ∷ []))
+          ∷ mapped (λ r. simpleNumbers (r .descriptor)) (simpleReplyIn (0x07 ∷ 0x83 ∷ 0x34 ∷ 0x12 ∷ 0x0B ∷ simpleBytes ++ 0x00 ∷ []))
+          ∷ mapped (λ r. simpleNumbers (r .descriptor)) (simpleReplyIn (0x07 ∷ 0x00 ∷ 0x34 ∷ 0x12 ∷ 0x09 ∷ simpleBytes))
+          ∷ mapped (λ r. simpleNumbers (r .descriptor)) (simpleReplyIn (0x07 ∷ 0x00 ∷ 0x34 ∷ 0x12 ∷ 0x0B ∷ simpleBytes))
+          ∷ mapped (λ r. simpleNumbers (r .descriptor)) (simpleReplyIn (0x07 ∷ 0x83 ∷ 0x34 ∷ 0x12 ∷ 0x00 ∷ []))
           ∷ [];
       expected =
           answer (1 ∷ 0x0104 ∷ 0x0302 ∷ 1 ∷ 7 ∷ 1 ∷ 10 ∷ 0 ∷ [])
@@ -554,11 +608,11 @@ extension associated.None = []
 abbrev pub address : ℕ → List ℕ → Outcome (List ℕ)
 address status behind =
     mapped (λ r. r .«ieee_addr» .0 ∷ r .«nwk_addr» .0 ∷ extension (r .associated))
-    (addrRspIn (0x07 ∷ status ∷ 0x08 ∷ 0x07 ∷ 0x06 ∷ 0x05 ∷ 0x04 ∷ 0x03 ∷ 0x02 ∷ 0x01 ∷ 0x34 ∷ 0x12 ∷ behind))
+    (addrReplyIn (0x07 ∷ status ∷ 0x08 ∷ 0x07 ∷ 0x06 ∷ 0x05 ∷ 0x04 ∷ 0x03 ∷ 0x02 ∷ 0x01 ∷ 0x34 ∷ 0x12 ∷ behind))
 
 -- 12 bytes, 13, 14, 14 of another status, and 17
-unfoldable pub Addresses : Case
-Addresses =
+unfoldable pub ReadAddresses : Case
+ReadAddresses =
     record {
       says =
           address 0x00 []
@@ -578,23 +632,26 @@ Addresses =
 
 -- ---- numbers with names
 
--- a reserved type of 9 with a band of 0x28, written and read: cut to 1, which is Router, and to 8; the complex bit set; the
--- two sizes in their places
-unfoldable pub Reserved : Case
-Reserved =
+-- what a node descriptor says in its first two bytes and its two sizes
+abbrev pub nodeShown : NodeDescriptorConfig → List ℕ
+nodeShown n =
+    typeShown (n .«logical_type»)
+    ∷ bit (n .«complex_descriptor_available»)
+    ∷ bit (n .«user_descriptor_available»)
+    ∷ n .«frequency_band»
+    ∷ n .«maximum_incoming_transfer_size»
+    ∷ n .«maximum_outgoing_transfer_size»
+    ∷ []
+
+-- a reserved type of 9 with a band of 0x28, written; it reads as Router, its band as 8; a reserved type of 5 reads as reserved.
+-- Reserved power numbers, written with a union of two sources; a reserved mode and level, read.
+unfoldable pub ReservedNumbers : Case
+ReservedNumbers =
     record {
       says =
           answer (laid (nodeDescriptor (nodeOf (type.Reserved 9))))
-          ∷ mapped
-          (λ d.
-          typeNumber (nodeFields d .«logical_type»)
-          ∷ bit (nodeFields d .«complex_descriptor_available»)
-          ∷ bit (nodeFields d .«user_descriptor_available»)
-          ∷ nodeFields d .«frequency_band»
-          ∷ nodeFields d .«maximum_incoming_transfer_size»
-          ∷ nodeFields d .«maximum_outgoing_transfer_size»
-          ∷ [])
-          (nodeDescriptorIn (laid (nodeDescriptor (nodeOf (type.Reserved 9)))))
+          ∷ mapped (λ d. nodeShown (nodeFields d)) (nodeDescriptorIn (laid (nodeDescriptor (nodeOf (type.Reserved 9)))))
+          ∷ mapped (λ d. nodeShown (nodeFields d)) (nodeDescriptorIn (laid (nodeDescriptor (nodeOf (type.Reserved 5)))))
           ∷ answer
           (laid
           (powerDescriptor
@@ -604,18 +661,20 @@ Reserved =
             «current_power_source» = source.Reserved 0x28;
             «current_power_source_level» = level.Reserved 0x33;
           })))
+          ∷ mapped (λ d. powerShown (powerFields d)) (powerDescriptorIn (0x5F ∷ 0x34 ∷ []))
           ∷ [];
       expected =
           answer (0x09 ∷ 0x40 ∷ 0x80 ∷ 0xCD ∷ 0xAB ∷ 0x52 ∷ 0x80 ∷ 0x00 ∷ 0x00 ∷ 0x2C ∷ 0x81 ∷ 0x00 ∷ 0x00 ∷ [])
           ∷ answer (1 ∷ 1 ∷ 0 ∷ 8 ∷ 0x0080 ∷ 0x0081 ∷ [])
+          ∷ answer (0x105 ∷ 1 ∷ 0 ∷ 8 ∷ 0x0080 ∷ 0x0081 ∷ [])
           ∷ answer (0x5F ∷ 0x38 ∷ [])
+          ∷ answer (0x10F ∷ 5 ∷ 4 ∷ 0x103 ∷ [])
           ∷ [];
     }
 
--- flags of each kind, in fields that have only the bit of that flag; what is available in byte 0 of a power descriptor; what
--- an entry routes
-unfoldable pub Flags : Case
-Flags =
+-- flags of each kind that are set and that are not; what is available in byte 0 of a power descriptor; what an entry routes
+unfoldable pub FlagBits : Case
+FlagBits =
     record {
       says =
           answer
@@ -639,18 +698,20 @@ Flags =
       expected = answer (1 ∷ 0 ∷ 1 ∷ 1 ∷ 0 ∷ 1 ∷ 1 ∷ []) ∷ answer (1 ∷ 0 ∷ 1 ∷ []) ∷ answer (1 ∷ 0 ∷ 0 ∷ []) ∷ [];
     }
 
--- the statuses of a leave, of a bind and of a discovery error
-unfoldable pub Codes : Case
-Codes =
+-- the statuses of a leave, of a bind and of a discovery error; the numbers of the refusals
+unfoldable pub StatusCodes : Case
+StatusCodes =
     record {
       says =
           answer (map leaveStatus (leaving.Success ∷ leaving.InvalidRequest ∷ leaving.UnknownDevice ∷ leaving.MacError ∷ leaving.NotAuthorized ∷ []))
           ∷ answer (map bindCode (bind.Success ∷ bind.InvalidEndpoint ∷ bind.TableFull ∷ bind.NoEntry ∷ bind.NotSupported ∷ []))
-          ∷ answer (map discoveryCode (discovery.InvalidRequestType ∷ discovery.DeviceNotFound ∷ []))
+          ∷ answer (map discoveryCode (error.InvalidRequestType ∷ error.DeviceNotFound ∷ []))
+          ∷ answer (map refusalNumber (BadTables ∷ UnknownCluster ∷ Malformed ∷ TooManyClusters ∷ ShortBuffer ∷ []))
           ∷ [];
       expected =
           answer (0x00 ∷ 0x80 ∷ 0x81 ∷ 0x8B ∷ 0x8D ∷ [])
           ∷ answer (0x00 ∷ 0x82 ∷ 0x8C ∷ 0x88 ∷ 0x84 ∷ [])
           ∷ answer (0x80 ∷ 0x81 ∷ [])
+          ∷ answer (1 ∷ 2 ∷ 3 ∷ 4 ∷ 5 ∷ [])
           ∷ [];
     }

@@ -76,12 +76,12 @@ bufferAfter before (refusal n) = before
 -- what is told to the caller
 pub data Told : Type 0 where
   replied : ℕ → ℕ → Told
-  left : MgmtLeaveReq → Told
+  leaving : MgmtLeaveReq → Told
 
 -- of a reply its cluster and length are told, of a leave its request
 unfoldable pub toldOf : Answer → Told
 toldOf (reply cluster bytes u) = replied cluster (length bytes)
-toldOf (leave q) = left q
+toldOf (leave q) = leaving q
 
 -- a call of the dispatcher that comes to o: what is told, the table after, and the buffer after
 pub record Dispatched (o : Outcome Answer) (t : BindingTable) (before : List ℕ) (told : Outcome Told) (u : BindingTable) (after : List ℕ) : Type 0 where

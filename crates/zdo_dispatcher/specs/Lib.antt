@@ -1,3 +1,4 @@
 pub mod Host
 pub mod Discovery
 pub mod Answers
+pub mod OneDispatched

@@ -21,30 +21,30 @@ use Rattle.zdo_readers.specs.declared.descriptor.OptionServerMask.{Optio
 use Rattle.zdo_readers.specs.declared.descriptor.OptionServerMask.the-variants as mask
 use Rattle.zdo_readers.specs.declared.descriptor.OptionStackRevision.{OptionStackRevision}
 use Rattle.zdo_readers.specs.declared.descriptor.OptionStackRevision.the-variants as revision
-use Rattle.zdo_readers.specs.declared.readers.RspHeader.{RspHeader}
-use Rattle.zdo_readers.specs.declared.readers.NodeRsp.{NodeRsp}
+use Rattle.zdo_readers.specs.declared.readers.ReplyHeader.{ReplyHeader}
+use Rattle.zdo_readers.specs.declared.readers.NodeReply.{NodeReply}
 use Rattle.zdo_readers.specs.declared.readers.OptionNodeDescriptor.{OptionNodeDescriptor}
 use Rattle.zdo_readers.specs.declared.readers.OptionNodeDescriptor.the-variants as node
-use Rattle.zdo_readers.specs.declared.readers.PowerRsp.{PowerRsp}
+use Rattle.zdo_readers.specs.declared.readers.PowerReply.{PowerReply}
 use Rattle.zdo_readers.specs.declared.readers.OptionPowerDescriptor.{OptionPowerDescriptor}
 use Rattle.zdo_readers.specs.declared.readers.OptionPowerDescriptor.the-variants as power
-use Rattle.zdo_readers.specs.declared.readers.SimpleRsp.{SimpleRsp}
+use Rattle.zdo_readers.specs.declared.readers.SimpleReply.{SimpleReply}
 use Rattle.zdo_readers.specs.declared.readers.OptionSimpleDescriptor.{OptionSimpleDescriptor}
 use Rattle.zdo_readers.specs.declared.readers.OptionSimpleDescriptor.the-variants as simple
-use Rattle.zdo_readers.specs.declared.readers.ListRsp.{ListRsp}
-use Rattle.zdo_readers.specs.declared.readers.MatchRsp.{MatchRsp}
-use Rattle.zdo_readers.specs.declared.readers.MatchRsp.the-variants.{Matched, Failed}
-use Rattle.zdo_readers.specs.declared.readers.AddrRsp.{AddrRsp}
+use Rattle.zdo_readers.specs.declared.readers.ListReply.{ListReply}
+use Rattle.zdo_readers.specs.declared.readers.MatchReply.{MatchReply}
+use Rattle.zdo_readers.specs.declared.readers.MatchReply.the-variants.{Matched, Failed}
+use Rattle.zdo_readers.specs.declared.readers.AddrReply.{AddrReply}
 use Rattle.zdo_readers.specs.declared.readers.OptionAssociated.{OptionAssociated}
 use Rattle.zdo_readers.specs.declared.readers.OptionAssociated.the-variants as associated
-use Rattle.zdo_readers.specs.declared.readers.StatusRsp.{StatusRsp}
+use Rattle.zdo_readers.specs.declared.readers.StatusReply.{StatusReply}
 
 -- seq, status, the address of interest: 4 bytes
 unfoldable pub headerWidths : List ℕ
 headerWidths = 1 ∷ 1 ∷ 2 ∷ []
 
 -- what most replies begin with
-unfoldable pub headerIn : List ℕ → Outcome RspHeader
+unfoldable pub headerIn : List ℕ → Outcome ReplyHeader
 headerIn = parsed headerWidths (λ field. record { seq = field 0; status = field 1; «nwk_addr_of_interest» = shortOf (field 2) })
 
 -- ---- node and power
@@ -55,8 +55,8 @@ nodeIn true reply = mapped node.Some (nodeDescriptorIn (drop 4 reply))
 nodeIn false reply = answer node.None
 
 -- 2.4.4.2.3
-unfoldable pub nodeRspIn : List ℕ → Outcome NodeRsp
-nodeRspIn reply = andThen (headerIn reply) (λ h. mapped (λ d. record { header = h; descriptor = d }) (nodeIn (eqb (h .status) SUCCESS) reply))
+unfoldable pub nodeReplyIn : List ℕ → Outcome NodeReply
+nodeReplyIn reply = andThen (headerIn reply) (λ h. mapped (λ d. record { header = h; descriptor = d }) (nodeIn (eqb (h .status) SUCCESS) reply))
 
 -- is the status SUCCESS: then the power descriptor stands from byte 4 on, with its refusals; else there is none
 unfoldable pub powerIn : Bool → List ℕ → Outcome OptionPowerDescriptor
@@ -64,8 +64,8 @@ powerIn true reply = mapped power.Some (powerDescriptorIn (drop 4 reply))
 powerIn false reply = answer power.None
 
 -- 2.4.4.2.4
-unfoldable pub powerRspIn : List ℕ → Outcome PowerRsp
-powerRspIn reply = andThen (headerIn reply) (λ h. mapped (λ d. record { header = h; descriptor = d }) (powerIn (eqb (h .status) SUCCESS) reply))
+unfoldable pub powerReplyIn : List ℕ → Outcome PowerReply
+powerReplyIn reply = andThen (headerIn reply) (λ h. mapped (λ d. record { header = h; descriptor = d }) (powerIn (eqb (h .status) SUCCESS) reply))
 
 -- ---- the server mask alone
 
@@ -95,19 +95,23 @@ stackRevisionOf mask.None = revision.None
 -- ---- active and match
 
 -- 2.4.4.2.6: the list is counted at byte 4, one byte for each endpoint, and must be whole
-unfoldable pub listRspIn : List ℕ → Outcome ListRsp
-listRspIn reply =
+unfoldable pub listReplyIn : List ℕ → Outcome ListReply
+listReplyIn reply =
     let list = counted reply 4 in
     andThen (headerIn reply) (λ h. needing (behind 1 list) reply (record { header = h; endpoints = list }))
 
--- is the status SUCCESS: then it is read as an active reply; else as three bytes, of which the third is ignored
-unfoldable pub matchRspInAs : Bool → List ℕ → Outcome MatchRsp
-matchRspInAs true reply = mapped Matched (listRspIn reply)
-matchRspInAs false reply = parsed (1 ∷ 1 ∷ 1 ∷ []) (λ field. Failed (field 0) (field 1)) reply
+-- seq, status, and a byte that is ignored
+unfoldable pub matchErrorWidths : List ℕ
+matchErrorWidths = 1 ∷ 1 ∷ 1 ∷ []
+
+-- is the status SUCCESS: then it is read as an active reply; else in the 3-byte form
+unfoldable pub matchReplyInAs : Bool → List ℕ → Outcome MatchReply
+matchReplyInAs true reply = mapped Matched (listReplyIn reply)
+matchReplyInAs false reply = parsed matchErrorWidths (λ field. Failed (field 0) (field 1)) reply
 
 -- 2.4.4.2.7: the status is byte 1; a reply that ends before it reads as SUCCESS, and is then too short
-unfoldable pub matchRspIn : List ℕ → Outcome MatchRsp
-matchRspIn reply = matchRspInAs (eqb (numberAt 1 reply 1) SUCCESS) reply
+unfoldable pub matchReplyIn : List ℕ → Outcome MatchReply
+matchReplyIn reply = matchReplyInAs (eqb (numberAt 1 reply 1) SUCCESS) reply
 
 -- ---- simple
 
@@ -138,8 +142,8 @@ simpleIn reply =
     andThen (needing (5 + len) reply len) (λ n. simpleWithin n reply)
 
 -- 2.4.4.2.5, of any status
-unfoldable pub simpleRspIn : List ℕ → Outcome SimpleRsp
-simpleRspIn reply = andThen (headerIn reply) (λ h. mapped (λ d. record { header = h; descriptor = d }) (simpleIn reply))
+unfoldable pub simpleReplyIn : List ℕ → Outcome SimpleReply
+simpleReplyIn reply = andThen (headerIn reply) (λ h. mapped (λ d. record { header = h; descriptor = d }) (simpleIn reply))
 
 -- ---- addresses
 
@@ -156,8 +160,8 @@ unfoldable pub addrWidths : List ℕ
 addrWidths = 1 ∷ 1 ∷ 8 ∷ 2 ∷ []
 
 -- 2.4.4.2.1 and 2.4.4.2.2: extended with 14 bytes or more and SUCCESS
-unfoldable pub addrRspIn : List ℕ → Outcome AddrRsp
-addrRspIn reply =
+unfoldable pub addrReplyIn : List ℕ → Outcome AddrReply
+addrReplyIn reply =
     parsed addrWidths
     (λ field.
     record {
@@ -171,6 +175,10 @@ addrRspIn reply =
 
 -- ---- bind, unbind and leave
 
--- 2.4.4.3.2, 2.4.4.3.3 and 2.4.4.4.5: seq, status
-unfoldable pub statusRspIn : List ℕ → Outcome StatusRsp
-statusRspIn = parsed (1 ∷ 1 ∷ []) (λ field. record { seq = field 0; status = field 1 })
+-- seq, status
+unfoldable pub statusWidths : List ℕ
+statusWidths = 1 ∷ 1 ∷ []
+
+-- 2.4.4.3.2, 2.4.4.3.3 and 2.4.4.4.5
+unfoldable pub statusReplyIn : List ℕ → Outcome StatusReply
+statusReplyIn = parsed statusWidths (λ field. record { seq = field 0; status = field 1 })

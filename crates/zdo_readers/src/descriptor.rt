@@ -1,4 +1,4 @@
-// The one reader that the Rust has (000).
+// The one reader of a reply that the Rust has (000).
 use zigbee_types::ShortAddress;
 
 // A parsed Node_Desc_rsp (2.4.4.2.3).

@@ -7,15 +7,15 @@ use zigbee_types::Places;
 use zigbee_types::ShortAddress;
 
 // What most replies begin with.
-pub struct RspHeader {
+pub struct ReplyHeader {
     pub seq: u8,
     pub status: u8,
     pub nwk_addr_of_interest: ShortAddress,
 }
 
 // A Node_Desc_rsp (2.4.4.2.3).
-pub struct NodeRsp {
-    pub header: RspHeader,
+pub struct NodeReply {
+    pub header: ReplyHeader,
     pub descriptor: OptionNodeDescriptor,
 }
 
@@ -25,8 +25,8 @@ pub enum OptionNodeDescriptor {
 }
 
 // A Power_Desc_rsp (2.4.4.2.4).
-pub struct PowerRsp {
-    pub header: RspHeader,
+pub struct PowerReply {
+    pub header: ReplyHeader,
     pub descriptor: OptionPowerDescriptor,
 }
 
@@ -36,8 +36,8 @@ pub enum OptionPowerDescriptor {
 }
 
 // A Simple_Desc_rsp (2.4.4.2.5).
-pub struct SimpleRsp {
-    pub header: RspHeader,
+pub struct SimpleReply {
+    pub header: ReplyHeader,
     pub descriptor: OptionSimpleDescriptor,
 }
 
@@ -47,19 +47,19 @@ pub enum OptionSimpleDescriptor {
 }
 
 // An Active_EP_rsp (2.4.4.2.6), and a Match_Desc_rsp (2.4.4.2.7) of status SUCCESS.
-pub struct ListRsp {
-    pub header: RspHeader,
+pub struct ListReply {
+    pub header: ReplyHeader,
     pub endpoints: Places,
 }
 
 // A Match_Desc_rsp (2.4.4.2.7): with its list, or with another status and nothing else.
-pub enum MatchRsp {
-    Matched(ListRsp),
+pub enum MatchReply {
+    Matched(ListReply),
     Failed { seq: u8, status: u8 },
 }
 
 // A NWK_addr_rsp or IEEE_addr_rsp (2.4.4.2.1, 2.4.4.2.2).
-pub struct AddrRsp {
+pub struct AddrReply {
     pub seq: u8,
     pub status: u8,
     pub ieee_addr: IeeeAddress,
@@ -81,7 +81,7 @@ pub enum OptionAssociated {
 }
 
 // A Bind_rsp, Unbind_rsp or Mgmt_Leave_rsp (2.4.4.3.2, 2.4.4.3.3, 2.4.4.4.5).
-pub struct StatusRsp {
+pub struct StatusReply {
     pub seq: u8,
     pub status: u8,
 }

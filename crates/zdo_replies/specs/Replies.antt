@@ -44,9 +44,13 @@ listRsp seq address endpoints = answer (laid (header seq SUCCESS address ++ byte
 unfoldable pub emptyRsp : ℕ → ℕ → ShortAddress → Outcome (List ℕ)
 emptyRsp seq status address = answer (laid (header seq status address ++ byte 0 ∷ []))
 
--- an error of match: seq, status, zero, and no address; 3 bytes
+-- seq, status, zero
+unfoldable pub matchErrorFields : ℕ → ℕ → List Field
+matchErrorFields seq status = byte seq ∷ byte status ∷ byte 0 ∷ []
+
+-- an error of match has no address; 3 bytes
 unfoldable pub matchDescRspError : ℕ → ℕ → Outcome (List ℕ)
-matchDescRspError seq status = answer (laid (byte seq ∷ byte status ∷ byte 0 ∷ []))
+matchDescRspError seq status = answer (laid (matchErrorFields seq status))
 
 -- ---- simple
 
@@ -77,6 +81,10 @@ addrRsp seq long address true = addrRspExtended seq long address 0 []
 
 -- ---- bind, unbind and leave
 
--- 2.4.4.3.2, 2.4.4.3.3 and 2.4.4.4.5: seq, status
+-- seq, status
+unfoldable pub statusFields : ℕ → ℕ → List Field
+statusFields seq status = byte seq ∷ byte status ∷ []
+
+-- 2.4.4.3.2, 2.4.4.3.3 and 2.4.4.4.5; 2 bytes
 unfoldable pub statusRsp : ℕ → ℕ → Outcome (List ℕ)
-statusRsp seq status = answer (laid (byte seq ∷ byte status ∷ []))
+statusRsp seq status = answer (laid (statusFields seq status))

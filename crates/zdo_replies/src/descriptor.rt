@@ -1,4 +1,4 @@
-// Why a reply is not SUCCESS (000).
+// The reasons that replies give (000).
 
 // Outcome of a Bind_req or Unbind_req, as reported in the response (2.4.4.3.2, 2.4.4.3.3).
 pub enum BindStatus {

@@ -6,7 +6,7 @@ use mathlib.Core.List.{List, [], _∷_}
 use lib.Dec.{eqb}
 use Rattle.zigbee_types.specs.Outcome.{Outcome, answer, refusal, mapped, needing}
 use Rattle.zigbee_types.specs.Bytes.{numberAt, bitAt}
-use Rattle.zigbee_types.specs.Layout.{byte, laid, fieldOf, parsed, counted, behind}
+use Rattle.zigbee_types.specs.Layout.{Field, byte, laid, fieldOf, parsed, counted, behind}
 use Rattle.zigbee_types.specs.Addresses.{short, ieeeOf, shortOf, groupOf}
 use Rattle.zigbee_types.specs.declared.Places.{Places}
 use Rattle.zigbee_types.specs.declared.ShortAddress.{ShortAddress}
@@ -32,15 +32,19 @@ nwkAddrReqIn = parsed (1 ∷ 8 ∷ 1 ∷ []) (λ field. record { seq = field 0; 
 unfoldable pub ieeeAddrReqIn : List ℕ → Outcome IeeeAddrReq
 ieeeAddrReqIn = parsed (1 ∷ 2 ∷ 1 ∷ []) (λ field. record { seq = field 0; «nwk_addr_of_interest» = shortOf (field 1); «request_type» = field 2 })
 
--- 2.4.3.1.3, 2.4.3.1.4 and 2.4.3.1.6, node, power and active: seq, short address
+-- seq, short address
+unfoldable pub addrOfInterestWidths : List ℕ
+addrOfInterestWidths = 1 ∷ 2 ∷ []
+
+-- 2.4.3.1.3, 2.4.3.1.4 and 2.4.3.1.6: node, power and active
 unfoldable pub addrOfInterestReqIn : List ℕ → Outcome AddrOfInterestReq
-addrOfInterestReqIn = parsed (1 ∷ 2 ∷ []) (λ field. record { seq = field 0; «nwk_addr_of_interest» = shortOf (field 1) })
+addrOfInterestReqIn = parsed addrOfInterestWidths (λ field. record { seq = field 0; «nwk_addr_of_interest» = shortOf (field 1) })
 
 -- the address alone, as `parse_addr_of_interest` gives it
 unfoldable pub addrOfInterestIn : List ℕ → Outcome ShortAddress
 addrOfInterestIn payload = mapped (λ q. q .«nwk_addr_of_interest») (addrOfInterestReqIn payload)
 
--- 2.4.3.1.5: the same, then the endpoint
+-- 2.4.3.1.5: seq, short address, endpoint
 unfoldable pub simpleDescReqIn : List ℕ → Outcome SimpleDescReq
 simpleDescReqIn =
     parsed (1 ∷ 2 ∷ 1 ∷ []) (λ field. record { seq = field 0; «nwk_addr_of_interest» = shortOf (field 1); endpoint = field 2 })
@@ -104,6 +108,10 @@ mgmtLeaveReqIn =
     (λ field.
     record { seq = field 0; «device_address» = optionIeee (field 1); «remove_children» = bitAt 6 (field 2); rejoin = bitAt 7 (field 2) })
 
--- 2.4.3.1.3, written: seq, short address
+-- seq, short address
+unfoldable pub addrOfInterestFields : ℕ → ShortAddress → List Field
+addrOfInterestFields seq address = byte seq ∷ short address ∷ []
+
+-- 2.4.3.1.3, written
 unfoldable pub nodeDescReq : ℕ → ShortAddress → Outcome (List ℕ)
-nodeDescReq seq address = answer (laid (byte seq ∷ short address ∷ []))
+nodeDescReq seq address = answer (laid (addrOfInterestFields seq address))

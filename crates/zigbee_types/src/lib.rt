@@ -1,5 +1,5 @@
-// What every layer shares: addresses, the places of a list, and refusals. (The Rust's crate of this name is not shown;
-// the names are those that its users write.)
+// What every layer shares: addresses, the places of a list, and refusals. (The Rust's crate of this name is not shown. Its users
+// write `IeeeAddress`; the other names are added.)
 pub mod byte;
 
 ghost use mathlib.Core.Path.{_≡_};
