@@ -18,10 +18,10 @@ use Rattle.apl_descriptors.specs.SimpleDescriptor.{simpleDescriptorIn}
 use Rattle.apl_descriptors.specs.declared.descriptor.NodeDescriptorConfig.{NodeDescriptorConfig}
 use Rattle.apl_descriptors.specs.declared.node_descriptor.LogicalType.{LogicalType}
 use Rattle.apl_descriptors.specs.declared.node_descriptor.LogicalType.the-variants as type
-use Rattle.apl_descriptors.specs.declared.node_descriptor.FrequencyBandFlag.the-variants.{Mid, EuropeanFSK}
-use Rattle.apl_descriptors.specs.declared.node_descriptor.MacCapabilityFlag.the-variants.{ReceiverOnWhenIdle, AllocateAddress}
-use Rattle.apl_descriptors.specs.declared.node_descriptor.ServerMaskFlag.the-variants.{PrimaryTrustCenter, NetworkManager}
-use Rattle.apl_descriptors.specs.declared.node_descriptor.DescriptorCapabilityFlag.the-variants.{ExtendedSimpleDescriptorListAvailable}
+use Rattle.apl_descriptors.specs.declared.node_descriptor.FrequencyBandFlag.the-variants.{Low, Mid, High, EuropeanFSK}
+use Rattle.apl_descriptors.specs.declared.node_descriptor.MacCapabilityFlag.the-variants.{AlternatePanCoordinator, DeviceType, PowerSource, ReceiverOnWhenIdle, SecurityCapability, AllocateAddress}
+use Rattle.apl_descriptors.specs.declared.node_descriptor.ServerMaskFlag.the-variants.{PrimaryTrustCenter, BackupTrustCenter, PrimaryBindingTableCache, BackupBindingTableCache, PrimaryDiscoveryCache, BackupDiscoveryCache, NetworkManager}
+use Rattle.apl_descriptors.specs.declared.node_descriptor.DescriptorCapabilityFlag.the-variants.{ExtendedActiveEndpontListAvailable, ExtendedSimpleDescriptorListAvailable}
 use Rattle.apl_descriptors.specs.declared.node_power_descriptor.CurrentPowerMode.the-variants as mode
 use Rattle.apl_descriptors.specs.declared.node_power_descriptor.PowerSource.the-variants as source
 use Rattle.apl_descriptors.specs.declared.node_power_descriptor.CurrentPowerSourceLevel.the-variants as level
@@ -578,13 +578,14 @@ simpleNumbers (simple.Some d) =
 abbrev pub simpleBytes : List ℕ
 simpleBytes = 0x01 ∷ 0x04 ∷ 0x01 ∷ 0x02 ∷ 0x03 ∷ 0x11 ∷ 0x01 ∷ 0x02 ∷ 0x04 ∷ 0x00 ∷ []
 
--- alone; in a reply of another status, with a byte to spare; with a length one short; with a length one past the reply; with
+-- alone; with an output of one byte; in a reply of another status, with a byte to spare; with a length one short; with a length one past the reply; with
 -- length 0
 unfoldable pub ReadSimple : Case
 ReadSimple =
     record {
       says =
           mapped (λ d. simpleNumbers (simple.Some d)) (simpleDescriptorIn simpleBytes)
+          ∷ mapped (λ d. simpleNumbers (simple.Some d)) (simpleDescriptorIn (0x01 ∷ 0x04 ∷ 0x01 ∷ 0x02 ∷ 0x03 ∷ 0x01 ∷ 0x00 ∷ 0x01 ∷ 0x19 ∷ []))
           ∷ mapped (λ r. simpleNumbers (r .descriptor)) (simpleReplyIn (0x07 ∷ 0x83 ∷ 0x34 ∷ 0x12 ∷ 0x0B ∷ simpleBytes ++ 0x00 ∷ []))
           ∷ mapped (λ r. simpleNumbers (r .descriptor)) (simpleReplyIn (0x07 ∷ 0x00 ∷ 0x34 ∷ 0x12 ∷ 0x09 ∷ simpleBytes))
           ∷ mapped (λ r. simpleNumbers (r .descriptor)) (simpleReplyIn (0x07 ∷ 0x00 ∷ 0x34 ∷ 0x12 ∷ 0x0B ∷ simpleBytes))
@@ -592,6 +593,7 @@ ReadSimple =
           ∷ [];
       expected =
           answer (1 ∷ 0x0104 ∷ 0x0302 ∷ 1 ∷ 7 ∷ 1 ∷ 10 ∷ 0 ∷ [])
+          ∷ refusal 3
           ∷ answer (1 ∷ 0x0104 ∷ 0x0302 ∷ 1 ∷ 12 ∷ 1 ∷ 15 ∷ 0 ∷ [])
           ∷ refusal 3
           ∷ refusal 3
@@ -672,21 +674,17 @@ ReservedNumbers =
           ∷ [];
     }
 
--- flags of each kind that are set and that are not; what is available in byte 0 of a power descriptor; what an entry routes
+-- the bits of the flags, kind by kind; a bit that is set, and one that is not; what is available in byte 0 of a power
+-- descriptor; what an entry routes
 unfoldable pub FlagBits : Case
 FlagBits =
     record {
       says =
-          answer
-          (map bit
-          (bitAt (frequencyBandFlag Mid) 0x04
-          ∷ bitAt (frequencyBandFlag EuropeanFSK) 0x0F
-          ∷ bitAt (macCapabilityFlag ReceiverOnWhenIdle) 0x08
-          ∷ bitAt (macCapabilityFlag AllocateAddress) 0x80
-          ∷ bitAt (serverMaskFlag PrimaryTrustCenter) 0x2C40
-          ∷ bitAt (serverMaskFlag NetworkManager) 0x2C40
-          ∷ bitAt (descriptorCapabilityFlag ExtendedSimpleDescriptorListAvailable) 0x02
-          ∷ []))
+          answer (map frequencyBandFlag (Low ∷ Mid ∷ High ∷ EuropeanFSK ∷ []))
+          ∷ answer (map macCapabilityFlag (AlternatePanCoordinator ∷ DeviceType ∷ PowerSource ∷ ReceiverOnWhenIdle ∷ SecurityCapability ∷ AllocateAddress ∷ []))
+          ∷ answer (map serverMaskFlag (PrimaryTrustCenter ∷ BackupTrustCenter ∷ PrimaryBindingTableCache ∷ BackupBindingTableCache ∷ PrimaryDiscoveryCache ∷ BackupDiscoveryCache ∷ NetworkManager ∷ []))
+          ∷ answer (map descriptorCapabilityFlag (ExtendedActiveEndpontListAvailable ∷ ExtendedSimpleDescriptorListAvailable ∷ []))
+          ∷ answer (map bit (bitAt (serverMaskFlag NetworkManager) 0x2C40 ∷ bitAt (serverMaskFlag PrimaryTrustCenter) 0x2C40 ∷ []))
           ∷ answer
           (map bit
           (supports (record { «byte0» = 0x42; «byte1» = 0x84 }) source.DisposableBattery
@@ -695,7 +693,15 @@ FlagBits =
           ∷ []))
           ∷ answer (map bit (routes (groupBinding 1 0x0402 (groupOf 3)) 1 0x0402 ∷ routes (groupBinding 1 0x0402 (groupOf 3)) 2 0x0402 ∷ routes (groupBinding 1 0x0402 (groupOf 3)) 1 0x0403 ∷ []))
           ∷ [];
-      expected = answer (1 ∷ 0 ∷ 1 ∷ 1 ∷ 0 ∷ 1 ∷ 1 ∷ []) ∷ answer (1 ∷ 0 ∷ 1 ∷ []) ∷ answer (1 ∷ 0 ∷ 0 ∷ []) ∷ [];
+      expected =
+          answer (0 ∷ 2 ∷ 3 ∷ 4 ∷ [])
+          ∷ answer (0 ∷ 1 ∷ 2 ∷ 3 ∷ 6 ∷ 7 ∷ [])
+          ∷ answer (0 ∷ 1 ∷ 2 ∷ 3 ∷ 4 ∷ 5 ∷ 6 ∷ [])
+          ∷ answer (0 ∷ 1 ∷ [])
+          ∷ answer (1 ∷ 0 ∷ [])
+          ∷ answer (1 ∷ 0 ∷ 1 ∷ [])
+          ∷ answer (1 ∷ 0 ∷ 0 ∷ [])
+          ∷ [];
     }
 
 -- the statuses of a leave, of a bind and of a discovery error; the numbers of the refusals
