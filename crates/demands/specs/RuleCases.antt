@@ -11,7 +11,7 @@ use Rattle.zigbee_types.specs.Outcome.{Outcome, answer, refusal, mapped, fitted
 use Rattle.zigbee_types.specs.Layout.{laid}
 use Rattle.zigbee_types.specs.Addresses.{ieeeOf, shortOf, groupOf}
 use Rattle.zigbee_types.specs.declared.Places.{Places}
-use Rattle.apl_descriptors.specs.NodeDescriptor.{nodeDescriptor, nodeDescriptorIn, nodeFields}
+use Rattle.apl_descriptors.specs.NodeDescriptor.{defaultNode, nodeDescriptor, nodeDescriptorIn, nodeFields}
 use Rattle.apl_descriptors.specs.PowerDescriptor.{sourceBitmap, powerDescriptor, powerDescriptorIn, powerFields, supports}
 use Rattle.apl_descriptors.specs.Flags.{frequencyBandFlag, macCapabilityFlag, serverMaskFlag, descriptorCapabilityFlag}
 use Rattle.apl_descriptors.specs.SimpleDescriptor.{simpleDescriptorIn}
@@ -633,6 +633,14 @@ ReadAddresses =
     }
 
 -- ---- numbers with names
+
+-- the default whole: a router, and zero elsewhere
+unfoldable pub DefaultNode : Case
+DefaultNode =
+    record {
+      says = answer (laid (nodeDescriptor defaultNode)) ∷ [];
+      expected = answer (0x01 ∷ 0x00 ∷ 0x00 ∷ 0x00 ∷ 0x00 ∷ 0x00 ∷ 0x00 ∷ 0x00 ∷ 0x00 ∷ 0x00 ∷ 0x00 ∷ 0x00 ∷ 0x00 ∷ []) ∷ [];
+    }
 
 -- what a node descriptor says in its first two bytes and its two sizes
 abbrev pub nodeShown : NodeDescriptorConfig → List ℕ
