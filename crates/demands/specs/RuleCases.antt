@@ -52,7 +52,7 @@ use Rattle.zdo_readers.specs.declared.readers.MatchReply.the-variants.{Matched,
 use Rattle.zdo_readers.specs.declared.readers.OptionAssociated.{OptionAssociated}
 use Rattle.zdo_readers.specs.declared.readers.OptionAssociated.the-variants as associated
 use Rattle.zdo_device.specs.Tables.{Pools, endpointClusters}
-use Rattle.zdo_device.specs.Matching.{matchingEndpoints}
+use Rattle.zdo_device.specs.Matching.{matchedRecords, matchingEndpoints}
 use Rattle.zdo_device.specs.TableReplies.{activeEpRsp, simpleDescRsp}
 use Rattle.zdo_device.specs.declared.descriptor.DeviceDescriptorConfig.{DeviceDescriptorConfig}
 use Rattle.zdo_device.specs.declared.descriptor.Side.the-variants.{Input, Output}
@@ -267,7 +267,18 @@ LongList =
       expected = answer (0x07 ∷ 0x00 ∷ 0x34 ∷ 0x12 ∷ 0xFF ∷ 0x01 ∷ []) ∷ answer (261 ∷ []) ∷ [];
     }
 
--- an endpoint's part by side, of an endpoint that we do not have, and where a pool is too short
+-- one endpoint, whose input is the fourth of its pool and whose output the second
+abbrev pub apart : DeviceDescriptorConfig
+apart =
+    record {
+      node = ourNode;
+      power = ourPower;
+      endpoints = replicate 32
+          (record { endpoint = 4; «device_version» = 0; «profile_id» = 0x0104; «device_id» = 0x0302; «input_start» = 3; «input_count» = 1; «output_start» = 1; «output_count» = 1 });
+      «endpoint_count» = 1;
+    }
+
+-- an endpoint's part by side, of an endpoint that we do not have, and where a pool is too short; parts that start apart
 unfoldable pub Parts : Case
 Parts =
     record {
@@ -276,8 +287,10 @@ Parts =
           ∷ answer (endpointClusters ourPools ourDescriptors Output 1)
           ∷ answer (endpointClusters ourPools ourDescriptors Input 3)
           ∷ answer (endpointClusters (record { inputs = ourPools .inputs; outputs = [] }) ourDescriptors Input 2)
+          ∷ answer (endpointClusters (record { inputs = ourPools .inputs; outputs = 0x0019 ∷ 0x0020 ∷ [] }) apart Input 4)
+          ∷ answer (endpointClusters (record { inputs = ourPools .inputs; outputs = 0x0019 ∷ 0x0020 ∷ [] }) apart Output 4)
           ∷ [];
-      expected = answer (0x0000 ∷ 0x0500 ∷ []) ∷ answer (0x0019 ∷ []) ∷ answer [] ∷ answer [] ∷ [];
+      expected = answer (0x0000 ∷ 0x0500 ∷ []) ∷ answer (0x0019 ∷ []) ∷ answer [] ∷ answer [] ∷ answer (0x0500 ∷ []) ∷ answer (0x0020 ∷ []) ∷ [];
     }
 
 -- ---- bind and unbind
@@ -405,8 +418,8 @@ Telling =
 abbrev pub ofCount : ℕ → DeviceDescriptorConfig
 ofCount n = record { node = ourNode; power = ourPower; endpoints = ourDescriptors .endpoints; «endpoint_count» = n }
 
--- a count of 33, of each function that takes it; a pool of 513 clusters, and one that a record runs past; places that end with
--- the payload, and one past it, of inputs and of outputs
+-- a count of 33, of each function that takes it; a pool of 513 clusters, of inputs and of outputs, and one that a record runs
+-- past; a run of 32 records, and of 33; places that end with the payload, and one past it, of inputs and of outputs
 unfoldable pub TableChecks : Case
 TableChecks =
     record {
@@ -415,7 +428,10 @@ TableChecks =
           ∷ activeEpRsp 7 (shortOf 0x1234) (ofCount 3)
           ∷ simpleDescRsp 7 (shortOf 0x1234) ourPools (ofCount 33) 1
           ∷ simpleDescRsp 7 (shortOf 0x1234) (record { inputs = replicate 513 0x0006; outputs = ourPools .outputs }) ourDescriptors 3
-          ∷ simpleDescRsp 7 (shortOf 0x1234) (record { inputs = replicate 512 0x0006; outputs = ourPools .outputs }) ourDescriptors 3
+          ∷ simpleDescRsp 7 (shortOf 0x1234) (record { inputs = ourPools .inputs; outputs = replicate 513 0x0019 }) ourDescriptors 3
+          ∷ simpleDescRsp 7 (shortOf 0x1234) (record { inputs = replicate 512 0x0006; outputs = replicate 512 0x0019 }) ourDescriptors 3
+          ∷ mapped (λ xs. length xs ∷ []) (matchedRecords ourPools (replicate 32 endpoint1) (standing 0 2) (0x02 ∷ 0x04 ∷ []))
+          ∷ mapped (λ xs. length xs ∷ []) (matchedRecords ourPools (replicate 33 endpoint1) (standing 0 2) (0x02 ∷ 0x04 ∷ []))
           ∷ matchingEndpoints ourPools (ofCount 33) (standing 0 2) (0x02 ∷ 0x04 ∷ [])
           ∷ matchingEndpoints (record { inputs = ourPools .inputs; outputs = [] }) ourDescriptors (standing 1 2) (0x02 ∷ 0x04 ∷ [])
           ∷ matchingEndpoints ourPools ourDescriptors (standing 0 2) (0x02 ∷ 0x04 ∷ [])
@@ -427,7 +443,10 @@ TableChecks =
           ∷ answer (0x07 ∷ 0x00 ∷ 0x34 ∷ 0x12 ∷ 0x03 ∷ 0x01 ∷ 0x02 ∷ 0x02 ∷ [])
           ∷ refusal 1
           ∷ refusal 1
+          ∷ refusal 1
           ∷ answer (0x07 ∷ 0x83 ∷ 0x34 ∷ 0x12 ∷ 0x00 ∷ [])
+          ∷ answer (32 ∷ [])
+          ∷ refusal 1
           ∷ refusal 1
           ∷ refusal 1
           ∷ answer (1 ∷ [])
@@ -606,13 +625,13 @@ abbrev pub extension : OptionAssociated → List ℕ
 extension (associated.Some e) = e .«num_assoc_dev» ∷ e .«start_index» ∷ places (e .devices)
 extension associated.None = []
 
--- an address reply with so much behind its twelve bytes
+-- what is read of an address reply with so much behind its twelve bytes
 abbrev pub address : ℕ → List ℕ → Outcome (List ℕ)
 address status behind =
-    mapped (λ r. r .«ieee_addr» .0 ∷ r .«nwk_addr» .0 ∷ extension (r .associated))
+    mapped (λ r. r .seq ∷ r .status ∷ r .«ieee_addr» .0 ∷ r .«nwk_addr» .0 ∷ extension (r .associated))
     (addrReplyIn (0x07 ∷ status ∷ 0x08 ∷ 0x07 ∷ 0x06 ∷ 0x05 ∷ 0x04 ∷ 0x03 ∷ 0x02 ∷ 0x01 ∷ 0x34 ∷ 0x12 ∷ behind))
 
--- 12 bytes, 13, 14, 14 of another status, and 17
+-- 12 bytes, 13, 14, 14 of another status, and 19
 unfoldable pub ReadAddresses : Case
 ReadAddresses =
     record {
@@ -621,14 +640,14 @@ ReadAddresses =
           ∷ address 0x00 (0x00 ∷ [])
           ∷ address 0x00 (0x00 ∷ 0x00 ∷ [])
           ∷ address 0x80 (0x00 ∷ 0x00 ∷ [])
-          ∷ address 0x00 (0x01 ∷ 0x00 ∷ 0x78 ∷ 0x56 ∷ 0x00 ∷ [])
+          ∷ address 0x00 (0x03 ∷ 0x01 ∷ 0x78 ∷ 0x56 ∷ 0x9A ∷ 0x57 ∷ 0x00 ∷ [])
           ∷ [];
       expected =
-          answer (0x0102_0304_0506_0708 ∷ 0x1234 ∷ [])
-          ∷ answer (0x0102_0304_0506_0708 ∷ 0x1234 ∷ [])
-          ∷ answer (0x0102_0304_0506_0708 ∷ 0x1234 ∷ 0 ∷ 0 ∷ 14 ∷ 0 ∷ [])
-          ∷ answer (0x0102_0304_0506_0708 ∷ 0x1234 ∷ [])
-          ∷ answer (0x0102_0304_0506_0708 ∷ 0x1234 ∷ 1 ∷ 0 ∷ 14 ∷ 1 ∷ [])
+          answer (7 ∷ 0x00 ∷ 0x0102_0304_0506_0708 ∷ 0x1234 ∷ [])
+          ∷ answer (7 ∷ 0x00 ∷ 0x0102_0304_0506_0708 ∷ 0x1234 ∷ [])
+          ∷ answer (7 ∷ 0x00 ∷ 0x0102_0304_0506_0708 ∷ 0x1234 ∷ 0 ∷ 0 ∷ 14 ∷ 0 ∷ [])
+          ∷ answer (7 ∷ 0x80 ∷ 0x0102_0304_0506_0708 ∷ 0x1234 ∷ [])
+          ∷ answer (7 ∷ 0x00 ∷ 0x0102_0304_0506_0708 ∷ 0x1234 ∷ 3 ∷ 1 ∷ 14 ∷ 2 ∷ [])
           ∷ [];
     }
 
