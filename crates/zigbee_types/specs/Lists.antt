@@ -23,7 +23,9 @@ module _ {A : Type 0} where
   -- the elements that pass the test, in their order
   unfoldable pub filter : (A → Bool) → List A → List A
   filter p [] = []
-  filter p (x ∷ xs) = cond (p x) (x ∷ filter p xs) (filter p xs)
+  filter p (x ∷ xs) =
+      let rest = filter p xs in
+      cond (p x) (x ∷ rest) rest
 
   -- the first element that passes the test
   unfoldable pub find : (A → Bool) → List A → Option A
