@@ -1,8 +1,10 @@
 -- What a case is, how it asks our device, and how it shows an outcome as numbers.
 use Prim.Native.Nat.{ℕ, _+_}
+use mathlib.Core.Bool.{true, false}
 use mathlib.Core.List.{List, [], _∷_, _++_}
 use lib.ListN.{drop}
 use Rattle.zigbee_types.specs.Outcome.{Outcome, answer, refusal, andThen}
+use Rattle.apl_descriptors.specs.declared.descriptor.NodeDescriptorConfig.{NodeDescriptorConfig}
 use Rattle.apl_descriptors.specs.declared.descriptor.PowerDescriptorConfig.{PowerDescriptorConfig}
 use Rattle.apl_descriptors.specs.declared.node_descriptor.LogicalType.{LogicalType}
 use Rattle.apl_descriptors.specs.declared.node_descriptor.LogicalType.the-variants as type
@@ -12,11 +14,13 @@ use Rattle.apl_descriptors.specs.declared.node_power_descriptor.PowerSource.{Po
 use Rattle.apl_descriptors.specs.declared.node_power_descriptor.PowerSource.the-variants as source
 use Rattle.apl_descriptors.specs.declared.node_power_descriptor.CurrentPowerSourceLevel.{CurrentPowerSourceLevel}
 use Rattle.apl_descriptors.specs.declared.node_power_descriptor.CurrentPowerSourceLevel.the-variants as level
+use Rattle.aps_binding.specs.Table.{emptyTable}
+use Rattle.aps_binding.specs.declared.binding.BindingTable.{BindingTable}
 use Rattle.zdo_requests.specs.Requests.{matchDescReqIn}
 use Rattle.zdo_device.specs.Matching.{matchingEndpoints}
 use Rattle.zdo_dispatcher.specs.Host.{Asked}
-use Rattle.zdo_dispatcher.specs.Answers.{Answer, reply, leave}
-use Rattle.demands.specs.OurDevice.{ourPools, ourDescriptors}
+use Rattle.zdo_dispatcher.specs.Answers.{Answer, reply, leave, answered}
+use Rattle.demands.specs.OurDevice.{ourPools, ourDescriptors, ours}
 
 -- what the definitions say, and what document 01 says, as literals
 pub record Case : Type 0 where
@@ -46,6 +50,25 @@ abbrev pub statusOf : Outcome Answer → Outcome (List ℕ)
 statusOf (answer (reply cluster bytes t)) = answer (drop 1 bytes)
 statusOf (answer (leave q)) = answer []
 statusOf (refusal n) = refusal n
+
+-- lists, one after the other
+abbrev pub joined : List (List ℕ) → List ℕ
+joined [] = []
+joined (x ∷ xs) = x ++ joined xs
+
+-- ---- asking the dispatcher
+
+-- what it replies to a request, with a binding table and a room
+abbrev pub tried : BindingTable → ℕ → List ℕ → ℕ → Outcome (List ℕ)
+tried t cluster payload room = heard (answered ours t (record { cluster = cluster; payload = payload; room = room }))
+
+-- what it replies with an empty table and a buffer of 128 bytes
+abbrev pub replies : ℕ → List ℕ → Outcome (List ℕ)
+replies cluster payload = tried (emptyTable 32) cluster payload 128
+
+-- a binding table of zeros, with a limit and a count
+abbrev pub counting : ℕ → ℕ → BindingTable
+counting limit count = record { entries = emptyTable 32 .entries; limit = limit; count = count }
 
 -- ---- numbers with names, so that a reserved one is told from a named one: it stands above 256
 
@@ -86,6 +109,25 @@ powerShown p =
     ∷ sourceShown (p .«current_power_source»)
     ∷ levelShown (p .«current_power_source_level»)
     ∷ []
+
+-- ---- a node of any type
+
+-- a node of a type, with its complex bit, a band of six bits and two different sizes
+abbrev pub nodeOf : LogicalType → NodeDescriptorConfig
+nodeOf t =
+    record {
+      «logical_type» = t;
+      «complex_descriptor_available» = true;
+      «user_descriptor_available» = false;
+      «frequency_band» = 0x28;
+      «mac_capability_flags» = 0x80;
+      «manufacturer_code» = 0xABCD;
+      «maximum_buffer_size» = 0x52;
+      «maximum_incoming_transfer_size» = 0x0080;
+      «server_mask» = 0x2C00;
+      «maximum_outgoing_transfer_size» = 0x0081;
+      «descriptor_capability_field» = 0;
+    }
 
 -- ---- requests to bind
 

@@ -3,14 +3,16 @@ use mathlib.Core.Path.{_≡_}
 use mathlib.Core.List.{List, [], _∷_, map}
 use Rattle.demands.specs.Cases.{Case}
 use Rattle.demands.specs.CounterCases.{K1, K2, K3, K4, K5, K6, K7, K8, K9, K10, K11, Sample}
-use Rattle.demands.specs.RuleCases.{NwkAddr, IeeeAddr, Elsewhere, Ours, Matching, Repeated, LongList, Parts, Linking, Shifting, RefusalOrder, Left, Telling, TableChecks, Links, LeaveRequest, ReadDescriptors, ReadLists, ReadSimple, ReadAddresses, DefaultNode, ReservedNumbers, FlagBits, StatusCodes}
+use Rattle.demands.specs.DispatchCases.{NwkAddr, IeeeAddr, Elsewhere, Ours, Linking, Shifting, RefusalOrder, Left, Telling, LeaveRequest}
+use Rattle.demands.specs.DeviceCases.{Matching, Repeated, LongList, Parts, TableChecks, Links}
+use Rattle.demands.specs.ReaderCases.{ReadDescriptors, ReadLists, ReadSimple, ReadAddresses, DefaultNode, ReservedNumbers, FlagBits, StatusCodes}
 
 -- K1 to K11, the sample, and the cases of the other rules
 unfoldable pub cases : List Case
 cases =
     K1 ∷ K2 ∷ K3 ∷ K4 ∷ K5 ∷ K6 ∷ K7 ∷ K8 ∷ K9 ∷ K10 ∷ K11 ∷ Sample
-    ∷ NwkAddr ∷ IeeeAddr ∷ Elsewhere ∷ Ours ∷ Matching ∷ Repeated ∷ LongList ∷ Parts ∷ Linking ∷ Shifting
-    ∷ RefusalOrder ∷ Left ∷ Telling ∷ TableChecks ∷ Links ∷ LeaveRequest
+    ∷ NwkAddr ∷ IeeeAddr ∷ Elsewhere ∷ Ours ∷ Linking ∷ Shifting ∷ RefusalOrder ∷ Left ∷ Telling ∷ LeaveRequest
+    ∷ Matching ∷ Repeated ∷ LongList ∷ Parts ∷ TableChecks ∷ Links
     ∷ ReadDescriptors ∷ ReadLists ∷ ReadSimple ∷ ReadAddresses ∷ DefaultNode ∷ ReservedNumbers ∷ FlagBits ∷ StatusCodes
     ∷ []
 

@@ -1,0 +1,185 @@
+-- Cases of device tables and of the binding table: matching, numbers that repeat, parts of pools, tables that are refused. What
+-- the definitions say stands on one side, and what document 01's sentences give, as literals, on the other.
+use Prim.Native.Nat.{ℕ}
+use mathlib.Core.List.{List, [], _∷_, map}
+use lib.ListN.{length, take, replicate}
+use Rattle.zigbee_types.specs.Outcome.{answer, refusal, mapped}
+use Rattle.zigbee_types.specs.Addresses.{ieeeOf, shortOf}
+use Rattle.aps_binding.specs.Entry.{deviceBinding, unused, key}
+use Rattle.aps_binding.specs.Table.{Linked, emptyTable, createBindingLink, removeBindingLink}
+use Rattle.zdo_requests.specs.declared.descriptor.MatchDescReq.{MatchDescReq}
+use Rattle.zdo_replies.specs.Replies.{listRsp}
+use Rattle.zdo_device.specs.Tables.{endpointClusters}
+use Rattle.zdo_device.specs.Matching.{matchedRecords, matchingEndpoints}
+use Rattle.zdo_device.specs.TableReplies.{activeEpRsp, simpleDescRsp}
+use Rattle.zdo_device.specs.declared.descriptor.DeviceDescriptorConfig.{DeviceDescriptorConfig}
+use Rattle.zdo_device.specs.declared.descriptor.Side.the-variants.{Input, Output}
+use Rattle.zdo_dispatcher.specs.Answers.{run}
+use Rattle.demands.specs.OurDevice.{ourNode, ourPower, endpoint1, endpoint2, ourPools, ourDescriptors}
+use Rattle.demands.specs.Cases.{Case, asked, found, counting, joined}
+
+-- another profile; 0xFFFF with an input that both endpoints have; an output; an output asked for as an input; the second of two
+-- inputs
+unfoldable pub Matching : Case
+Matching =
+    record {
+      says =
+          found (0x09 ∷ 0x34 ∷ 0x12 ∷ 0x05 ∷ 0x01 ∷ 0x01 ∷ 0x00 ∷ 0x00 ∷ 0x00 ∷ [])
+          ∷ found (0x09 ∷ 0x34 ∷ 0x12 ∷ 0xFF ∷ 0xFF ∷ 0x01 ∷ 0x00 ∷ 0x00 ∷ 0x00 ∷ [])
+          ∷ found (0x09 ∷ 0x34 ∷ 0x12 ∷ 0x04 ∷ 0x01 ∷ 0x00 ∷ 0x01 ∷ 0x19 ∷ 0x00 ∷ [])
+          ∷ found (0x09 ∷ 0x34 ∷ 0x12 ∷ 0x04 ∷ 0x01 ∷ 0x01 ∷ 0x19 ∷ 0x00 ∷ 0x00 ∷ [])
+          ∷ found (0x09 ∷ 0x34 ∷ 0x12 ∷ 0x04 ∷ 0x01 ∷ 0x02 ∷ 0x19 ∷ 0x00 ∷ 0x00 ∷ 0x05 ∷ 0x00 ∷ [])
+          ∷ [];
+      expected = answer [] ∷ answer (1 ∷ 2 ∷ []) ∷ answer (1 ∷ []) ∷ answer [] ∷ answer (2 ∷ []) ∷ [];
+    }
+
+-- a match request of one input and no outputs, which are said to stand at places
+abbrev pub standing : ℕ → ℕ → MatchDescReq
+standing inputs outputs =
+    record {
+      seq = 9;
+      «nwk_addr_of_interest» = shortOf 0x1234;
+      «profile_id» = 0x0104;
+      «input_clusters» = record { start = inputs; count = 1 };
+      «output_clusters» = record { start = outputs; count = 0 };
+    }
+
+-- endpoint 2, and then endpoint 1 under the same number
+abbrev pub twice : DeviceDescriptorConfig
+twice =
+    record {
+      node = ourNode;
+      power = ourPower;
+      endpoints =
+          endpoint2
+          ∷ record { endpoint = 2; «device_version» = 0x11; «profile_id» = 0x0104; «device_id» = 0x0302; «input_start» = 0; «input_count» = 2; «output_start» = 0; «output_count» = 1 }
+          ∷ replicate 30 endpoint1;
+      «endpoint_count» = 2;
+    }
+
+-- the first record answers for a number, in a simple reply and for its part of a pool; both stand in the active list, and
+-- both match; a record behind the count answers for nothing
+unfoldable pub Repeated : Case
+Repeated =
+    record {
+      says =
+          simpleDescRsp 7 (shortOf 0x1234) ourPools twice 2
+          ∷ answer (endpointClusters ourPools twice Input 2)
+          ∷ activeEpRsp 7 (shortOf 0x1234) twice
+          ∷ matchingEndpoints ourPools twice (standing 0 2) (0x00 ∷ 0x00 ∷ [])
+          ∷ simpleDescRsp 7 (shortOf 0x1234) ourPools twice 1
+          ∷ [];
+      expected =
+          answer (0x07 ∷ 0x00 ∷ 0x34 ∷ 0x12 ∷ 0x0C ∷ 0x02 ∷ 0x04 ∷ 0x01 ∷ 0x02 ∷ 0x04 ∷ 0x00 ∷ 0x02 ∷ 0x00 ∷ 0x00 ∷ 0x00 ∷ 0x05 ∷ 0x00 ∷ [])
+          ∷ answer (0x0000 ∷ 0x0500 ∷ [])
+          ∷ answer (0x07 ∷ 0x00 ∷ 0x34 ∷ 0x12 ∷ 0x02 ∷ 0x02 ∷ 0x02 ∷ [])
+          ∷ answer (2 ∷ 2 ∷ [])
+          ∷ answer (0x07 ∷ 0x83 ∷ 0x34 ∷ 0x12 ∷ 0x00 ∷ [])
+          ∷ [];
+    }
+
+-- a list of 256 endpoints: its count, and its length in all
+unfoldable pub LongList : Case
+LongList =
+    let o = listRsp 7 (shortOf 0x1234) (replicate 256 0x01) in
+    record {
+      says = mapped (λ bytes. take 6 bytes) o ∷ mapped (λ bytes. length bytes ∷ []) o ∷ [];
+      expected = answer (0x07 ∷ 0x00 ∷ 0x34 ∷ 0x12 ∷ 0xFF ∷ 0x01 ∷ []) ∷ answer (261 ∷ []) ∷ [];
+    }
+
+-- one endpoint, whose input is the fourth of its pool and whose output the second
+abbrev pub apart : DeviceDescriptorConfig
+apart =
+    record {
+      node = ourNode;
+      power = ourPower;
+      endpoints = replicate 32
+          (record { endpoint = 4; «device_version» = 0; «profile_id» = 0x0104; «device_id» = 0x0302; «input_start» = 3; «input_count» = 1; «output_start» = 1; «output_count» = 1 });
+      «endpoint_count» = 1;
+    }
+
+-- an endpoint's part by side, of an endpoint that we do not have, and where a pool is too short; parts that start apart
+unfoldable pub Parts : Case
+Parts =
+    record {
+      says =
+          answer (endpointClusters ourPools ourDescriptors Input 2)
+          ∷ answer (endpointClusters ourPools ourDescriptors Output 1)
+          ∷ answer (endpointClusters ourPools ourDescriptors Input 3)
+          ∷ answer (endpointClusters (record { inputs = ourPools .inputs; outputs = [] }) ourDescriptors Input 2)
+          ∷ answer (endpointClusters (record { inputs = ourPools .inputs; outputs = 0x0019 ∷ 0x0020 ∷ [] }) apart Input 4)
+          ∷ answer (endpointClusters (record { inputs = ourPools .inputs; outputs = 0x0019 ∷ 0x0020 ∷ [] }) apart Output 4)
+          ∷ [];
+      expected = answer (0x0000 ∷ 0x0500 ∷ []) ∷ answer (0x0019 ∷ []) ∷ answer [] ∷ answer [] ∷ answer (0x0500 ∷ []) ∷ answer (0x0020 ∷ []) ∷ [];
+    }
+
+-- our records, with a count
+abbrev pub ofCount : ℕ → DeviceDescriptorConfig
+ofCount n = record { node = ourNode; power = ourPower; endpoints = ourDescriptors .endpoints; «endpoint_count» = n }
+
+-- a count of 33, of each function that takes it; a pool of 513 clusters, of inputs and of outputs, and one that a record runs
+-- past; a run of 32 records, and of 33; places that end with the payload, and one past it, of inputs and of outputs
+unfoldable pub TableChecks : Case
+TableChecks =
+    record {
+      says =
+          activeEpRsp 7 (shortOf 0x1234) (ofCount 33)
+          ∷ activeEpRsp 7 (shortOf 0x1234) (ofCount 3)
+          ∷ simpleDescRsp 7 (shortOf 0x1234) ourPools (ofCount 33) 1
+          ∷ simpleDescRsp 7 (shortOf 0x1234) (record { inputs = replicate 513 0x0006; outputs = ourPools .outputs }) ourDescriptors 3
+          ∷ simpleDescRsp 7 (shortOf 0x1234) (record { inputs = ourPools .inputs; outputs = replicate 513 0x0019 }) ourDescriptors 3
+          ∷ simpleDescRsp 7 (shortOf 0x1234) (record { inputs = replicate 512 0x0006; outputs = replicate 512 0x0019 }) ourDescriptors 3
+          ∷ mapped (λ xs. length xs ∷ []) (matchedRecords ourPools (replicate 32 endpoint1) (standing 0 2) (0x02 ∷ 0x04 ∷ []))
+          ∷ mapped (λ xs. length xs ∷ []) (matchedRecords ourPools (replicate 33 endpoint1) (standing 0 2) (0x02 ∷ 0x04 ∷ []))
+          ∷ matchingEndpoints ourPools (ofCount 33) (standing 0 2) (0x02 ∷ 0x04 ∷ [])
+          ∷ matchingEndpoints (record { inputs = ourPools .inputs; outputs = [] }) ourDescriptors (standing 1 2) (0x02 ∷ 0x04 ∷ [])
+          ∷ matchingEndpoints ourPools ourDescriptors (standing 0 2) (0x02 ∷ 0x04 ∷ [])
+          ∷ matchingEndpoints ourPools ourDescriptors (standing 1 2) (0x02 ∷ 0x04 ∷ [])
+          ∷ matchingEndpoints ourPools ourDescriptors (standing 0 3) (0x02 ∷ 0x04 ∷ [])
+          ∷ [];
+      expected =
+          refusal 1
+          ∷ answer (0x07 ∷ 0x00 ∷ 0x34 ∷ 0x12 ∷ 0x03 ∷ 0x01 ∷ 0x02 ∷ 0x02 ∷ [])
+          ∷ refusal 1
+          ∷ refusal 1
+          ∷ refusal 1
+          ∷ answer (0x07 ∷ 0x83 ∷ 0x34 ∷ 0x12 ∷ 0x00 ∷ [])
+          ∷ answer (32 ∷ [])
+          ∷ refusal 1
+          ∷ refusal 1
+          ∷ refusal 1
+          ∷ answer (1 ∷ [])
+          ∷ refusal 3
+          ∷ refusal 3
+          ∷ [];
+    }
+
+-- a step's status, then the count, the limit and the key of the first entry
+abbrev pub linkNumbers : Linked → List ℕ
+linkNumbers l = l .status ∷ l .table .count ∷ l .table .limit ∷ joined (map key (take 1 (l .table .entries)))
+
+-- of a table of zeros of which some are held: a device binding is bound with room, in a full table and in an empty one; the
+-- group binding of zeros is bound with a limit of 33, and unbound where it is held, where nothing is, and with a count above
+-- the limit
+unfoldable pub Links : Case
+Links =
+    record {
+      says =
+          mapped linkNumbers (createBindingLink (counting 2 1) (deviceBinding 1 0x0402 (ieeeOf 9) 2))
+          ∷ mapped linkNumbers (createBindingLink (counting 1 1) (deviceBinding 1 0x0402 (ieeeOf 9) 2))
+          ∷ mapped linkNumbers (createBindingLink (emptyTable 1) (deviceBinding 1 0x0402 (ieeeOf 9) 2))
+          ∷ mapped linkNumbers (createBindingLink (emptyTable 33) unused)
+          ∷ mapped linkNumbers (removeBindingLink (counting 1 1) unused)
+          ∷ mapped linkNumbers (removeBindingLink (emptyTable 1) unused)
+          ∷ mapped linkNumbers (removeBindingLink (counting 1 2) unused)
+          ∷ [];
+      expected =
+          answer (0x00 ∷ 2 ∷ 2 ∷ 0 ∷ 0 ∷ 0 ∷ 0 ∷ 0 ∷ 1 ∷ [])
+          ∷ answer (0x8C ∷ 1 ∷ 1 ∷ 0 ∷ 0 ∷ 0 ∷ 0 ∷ 0 ∷ 1 ∷ [])
+          ∷ answer (0x00 ∷ 1 ∷ 1 ∷ 0x0402 ∷ 1 ∷ 9 ∷ 2 ∷ 0 ∷ 3 ∷ [])
+          ∷ refusal 1
+          ∷ answer (0x00 ∷ 0 ∷ 1 ∷ 0 ∷ 0 ∷ 0 ∷ 0 ∷ 0 ∷ 1 ∷ [])
+          ∷ answer (0x88 ∷ 0 ∷ 1 ∷ 0 ∷ 0 ∷ 0 ∷ 0 ∷ 0 ∷ 1 ∷ [])
+          ∷ refusal 1
+          ∷ [];
+    }

@@ -1,0 +1,259 @@
+-- Cases of the dispatcher: each request, about us and about another device; bind and unbind; the order of refusals; what is
+-- left. What the definitions say stands on one side, and what document 01's sentences give, as literals, on the other.
+use Prim.Native.Nat.{ℕ}
+use mathlib.Core.List.{List, [], _∷_, _++_, map}
+use lib.ListN.{length, take, drop, replicate}
+use Rattle.zigbee_types.specs.Bytes.{bit}
+use Rattle.zigbee_types.specs.Outcome.{Outcome, answer, refusal, mapped, fitted, written}
+use Rattle.zigbee_types.specs.Addresses.{shortOf}
+use Rattle.apl_descriptors.specs.declared.node_descriptor.LogicalType.{LogicalType}
+use Rattle.apl_descriptors.specs.declared.node_descriptor.LogicalType.the-variants as type
+use Rattle.aps_binding.specs.Entry.{key}
+use Rattle.aps_binding.specs.Table.{emptyTable}
+use Rattle.zdo_requests.specs.Requests.{addrOfInterestIn, mgmtLeaveReqIn, nodeDescReq}
+use Rattle.zdo_requests.specs.declared.descriptor.MgmtLeaveReq.{MgmtLeaveReq}
+use Rattle.zdo_requests.specs.declared.descriptor.OptionIeeeAddress.{OptionIeeeAddress}
+use Rattle.zdo_requests.specs.declared.descriptor.OptionIeeeAddress.the-variants as optional
+use Rattle.zdo_dispatcher.specs.Host.{Asked, asking}
+use Rattle.zdo_dispatcher.specs.Answers.{Told, replied, leaving, toldOf, answered, bufferAfter, run, runTable}
+use Rattle.demands.specs.OurDevice.{ourPower, ourPools, ourDescriptors, ours}
+use Rattle.demands.specs.Cases.{Case, asked, heard, statusOf, bindHead, bindA, bindB, bindC, tried, replies, counting, joined, nodeOf}
+
+-- a NWK_addr_req for our IEEE address, of a type
+abbrev pub nwkAddr : ℕ → List ℕ
+nwkAddr kind = 0x07 ∷ 0x08 ∷ 0x07 ∷ 0x06 ∷ 0x05 ∷ 0x04 ∷ 0x03 ∷ 0x02 ∷ 0x01 ∷ kind ∷ []
+
+-- single, extended, another type, another device; one byte short
+unfoldable pub NwkAddr : Case
+NwkAddr =
+    record {
+      says =
+          replies 0x0000 (nwkAddr 0x00)
+          ∷ replies 0x0000 (nwkAddr 0x01)
+          ∷ replies 0x0000 (nwkAddr 0x02)
+          ∷ replies 0x0000 (0x07 ∷ 0xF1 ∷ 0xF2 ∷ 0xF3 ∷ 0xF4 ∷ 0xF5 ∷ 0xF6 ∷ 0xF7 ∷ 0xF8 ∷ 0x02 ∷ [])
+          ∷ replies 0x0000 (take 9 (nwkAddr 0x00))
+          ∷ [];
+      expected =
+          answer (0x8000 ∷ 0x07 ∷ 0x00 ∷ 0x08 ∷ 0x07 ∷ 0x06 ∷ 0x05 ∷ 0x04 ∷ 0x03 ∷ 0x02 ∷ 0x01 ∷ 0x34 ∷ 0x12 ∷ [])
+          ∷ answer (0x8000 ∷ 0x07 ∷ 0x00 ∷ 0x08 ∷ 0x07 ∷ 0x06 ∷ 0x05 ∷ 0x04 ∷ 0x03 ∷ 0x02 ∷ 0x01 ∷ 0x34 ∷ 0x12 ∷ 0x00 ∷ 0x00 ∷ [])
+          ∷ answer (0x8000 ∷ 0x07 ∷ 0x80 ∷ 0x08 ∷ 0x07 ∷ 0x06 ∷ 0x05 ∷ 0x04 ∷ 0x03 ∷ 0x02 ∷ 0x01 ∷ 0x34 ∷ 0x12 ∷ [])
+          ∷ answer (0x8000 ∷ 0x07 ∷ 0x81 ∷ 0xF1 ∷ 0xF2 ∷ 0xF3 ∷ 0xF4 ∷ 0xF5 ∷ 0xF6 ∷ 0xF7 ∷ 0xF8 ∷ 0xFF ∷ 0xFF ∷ [])
+          ∷ refusal 3
+          ∷ [];
+    }
+
+-- us, single, extended and of another type; another device; one byte short
+unfoldable pub IeeeAddr : Case
+IeeeAddr =
+    record {
+      says =
+          replies 0x0001 (0x07 ∷ 0x34 ∷ 0x12 ∷ 0x00 ∷ [])
+          ∷ replies 0x0001 (0x07 ∷ 0x34 ∷ 0x12 ∷ 0x01 ∷ [])
+          ∷ replies 0x0001 (0x07 ∷ 0x34 ∷ 0x12 ∷ 0xFF ∷ [])
+          ∷ replies 0x0001 (0x07 ∷ 0x78 ∷ 0x56 ∷ 0x00 ∷ [])
+          ∷ replies 0x0001 (0x07 ∷ 0x34 ∷ 0x12 ∷ [])
+          ∷ [];
+      expected =
+          answer (0x8001 ∷ 0x07 ∷ 0x00 ∷ 0x08 ∷ 0x07 ∷ 0x06 ∷ 0x05 ∷ 0x04 ∷ 0x03 ∷ 0x02 ∷ 0x01 ∷ 0x34 ∷ 0x12 ∷ [])
+          ∷ answer (0x8001 ∷ 0x07 ∷ 0x00 ∷ 0x08 ∷ 0x07 ∷ 0x06 ∷ 0x05 ∷ 0x04 ∷ 0x03 ∷ 0x02 ∷ 0x01 ∷ 0x34 ∷ 0x12 ∷ 0x00 ∷ 0x00 ∷ [])
+          ∷ answer (0x8001 ∷ 0x07 ∷ 0x80 ∷ 0x08 ∷ 0x07 ∷ 0x06 ∷ 0x05 ∷ 0x04 ∷ 0x03 ∷ 0x02 ∷ 0x01 ∷ 0x34 ∷ 0x12 ∷ [])
+          ∷ answer (0x8001 ∷ 0x07 ∷ 0x81 ∷ 0xFF ∷ 0xFF ∷ 0xFF ∷ 0xFF ∷ 0xFF ∷ 0xFF ∷ 0xFF ∷ 0xFF ∷ 0x78 ∷ 0x56 ∷ [])
+          ∷ refusal 3
+          ∷ [];
+    }
+
+-- what a device of a type replies to a node request for 0x5678
+abbrev pub elsewhere : LogicalType → Outcome (List ℕ)
+elsewhere t =
+    heard
+    (answered
+    (record {
+      device = record { node = nodeOf t; power = ourPower; endpoints = ourDescriptors .endpoints; «endpoint_count» = 2 };
+      «ieee_addr» = ours .«ieee_addr»;
+      «nwk_addr» = ours .«nwk_addr»;
+      pools = ourPools;
+    })
+    (emptyTable 32)
+    (asked 0x0002 (0x07 ∷ 0x78 ∷ 0x56 ∷ [])))
+
+-- an end device, by cluster; then a node request to other types
+unfoldable pub Elsewhere : Case
+Elsewhere =
+    record {
+      says =
+          replies 0x0002 (0x07 ∷ 0x78 ∷ 0x56 ∷ [])
+          ∷ replies 0x0003 (0x07 ∷ 0x78 ∷ 0x56 ∷ [])
+          ∷ replies 0x0004 (0x07 ∷ 0x78 ∷ 0x56 ∷ 0x01 ∷ [])
+          ∷ replies 0x0005 (0x07 ∷ 0x78 ∷ 0x56 ∷ [])
+          ∷ replies 0x0006 (0x07 ∷ 0x78 ∷ 0x56 ∷ 0x04 ∷ 0x01 ∷ 0x00 ∷ 0x00 ∷ [])
+          ∷ elsewhere type.Coordinator
+          ∷ elsewhere type.Router
+          ∷ elsewhere type.EndDevice
+          ∷ elsewhere (type.Reserved 1)
+          ∷ [];
+      expected =
+          answer (0x8002 ∷ 0x07 ∷ 0x80 ∷ 0x78 ∷ 0x56 ∷ [])
+          ∷ answer (0x8003 ∷ 0x07 ∷ 0x80 ∷ 0x78 ∷ 0x56 ∷ [])
+          ∷ answer (0x8004 ∷ 0x07 ∷ 0x80 ∷ 0x78 ∷ 0x56 ∷ 0x00 ∷ [])
+          ∷ answer (0x8005 ∷ 0x07 ∷ 0x80 ∷ 0x78 ∷ 0x56 ∷ 0x00 ∷ [])
+          ∷ answer (0x8006 ∷ 0x07 ∷ 0x80 ∷ 0x00 ∷ [])
+          ∷ answer (0x8002 ∷ 0x07 ∷ 0x81 ∷ 0x78 ∷ 0x56 ∷ [])
+          ∷ answer (0x8002 ∷ 0x07 ∷ 0x81 ∷ 0x78 ∷ 0x56 ∷ [])
+          ∷ answer (0x8002 ∷ 0x07 ∷ 0x80 ∷ 0x78 ∷ 0x56 ∷ [])
+          ∷ answer (0x8002 ∷ 0x07 ∷ 0x80 ∷ 0x78 ∷ 0x56 ∷ [])
+          ∷ [];
+    }
+
+-- node; power; simple of endpoint 2, of one that we do not have, and of three bytes; a match that finds nothing
+unfoldable pub Ours : Case
+Ours =
+    record {
+      says =
+          replies 0x0002 (0x07 ∷ 0x34 ∷ 0x12 ∷ [])
+          ∷ replies 0x0003 (0x07 ∷ 0x34 ∷ 0x12 ∷ [])
+          ∷ replies 0x0004 (0x07 ∷ 0x34 ∷ 0x12 ∷ 0x02 ∷ [])
+          ∷ replies 0x0004 (0x07 ∷ 0x34 ∷ 0x12 ∷ 0x03 ∷ [])
+          ∷ replies 0x0004 (0x07 ∷ 0x34 ∷ 0x12 ∷ [])
+          ∷ replies 0x0006 (0x07 ∷ 0x34 ∷ 0x12 ∷ 0x04 ∷ 0x01 ∷ 0x00 ∷ 0x01 ∷ 0x00 ∷ 0x05 ∷ [])
+          ∷ [];
+      expected =
+          answer (0x8002 ∷ 0x07 ∷ 0x00 ∷ 0x34 ∷ 0x12 ∷ 0x02 ∷ 0x40 ∷ 0x80 ∷ 0xCD ∷ 0xAB ∷ 0x52 ∷ 0x80 ∷ 0x00 ∷ 0x00 ∷ 0x2C ∷ 0x80 ∷ 0x00 ∷ 0x00 ∷ [])
+          ∷ answer (0x8003 ∷ 0x07 ∷ 0x00 ∷ 0x34 ∷ 0x12 ∷ 0x42 ∷ 0x84 ∷ [])
+          ∷ answer (0x8004 ∷ 0x07 ∷ 0x00 ∷ 0x34 ∷ 0x12 ∷ 0x0C ∷ 0x02 ∷ 0x04 ∷ 0x01 ∷ 0x02 ∷ 0x04 ∷ 0x00 ∷ 0x02 ∷ 0x00 ∷ 0x00 ∷ 0x00 ∷ 0x05 ∷ 0x00 ∷ [])
+          ∷ answer (0x8004 ∷ 0x07 ∷ 0x83 ∷ 0x34 ∷ 0x12 ∷ 0x00 ∷ [])
+          ∷ refusal 3
+          ∷ answer (0x8006 ∷ 0x07 ∷ 0x00 ∷ 0x34 ∷ 0x12 ∷ 0x00 ∷ [])
+          ∷ [];
+    }
+
+-- the keys of the entries in the first three places, after requests
+abbrev pub firstKeys : List Asked → List ℕ
+firstKeys requests = joined (map key (take 3 (runTable ours (emptyTable 32) requests .entries)))
+
+-- another source; an endpoint that is not ours; both, where the source comes first; mode 2; 21 bytes of 22; a duplicate in a
+-- full table
+unfoldable pub Linking : Case
+Linking =
+    record {
+      says =
+          replies 0x0021 (0x0A ∷ 0x09 ∷ drop 2 bindA)
+          ∷ replies 0x0022 (take 9 bindA ++ 0x03 ∷ drop 10 bindA)
+          ∷ replies 0x0021 (0x0A ∷ 0x09 ∷ take 7 (drop 2 bindA) ++ 0x03 ∷ drop 10 bindA)
+          ∷ replies 0x0021 (bindHead ++ 0x02 ∷ 0x03 ∷ 0x00 ∷ [])
+          ∷ replies 0x0021 (take 21 bindC)
+          ∷ map statusOf (run ours (emptyTable 1) (asked 0x0021 bindA ∷ asked 0x0021 bindA ∷ []));
+      expected =
+          answer (0x8021 ∷ 0x0A ∷ 0x84 ∷ [])
+          ∷ answer (0x8022 ∷ 0x0A ∷ 0x82 ∷ [])
+          ∷ answer (0x8021 ∷ 0x0A ∷ 0x84 ∷ [])
+          ∷ refusal 3
+          ∷ refusal 3
+          ∷ answer (0x00 ∷ [])
+          ∷ answer (0x00 ∷ [])
+          ∷ [];
+    }
+
+-- A, B and C bound and B unbound: A, C, and the group binding of zeros. An entry is shown as cluster, endpoint, destination
+-- address, destination endpoint, group and mode.
+unfoldable pub Shifting : Case
+Shifting =
+    record {
+      says = answer (firstKeys (asked 0x0021 bindA ∷ asked 0x0021 bindB ∷ asked 0x0021 bindC ∷ asked 0x0022 bindB ∷ [])) ∷ [];
+      expected =
+          answer
+          (0x0402 ∷ 0x01 ∷ 0x00 ∷ 0x00 ∷ 0x0003 ∷ 0x01
+          ∷ 0x0402 ∷ 0x01 ∷ 0xF8F7_F6F5_F4F3_F2F1 ∷ 0x01 ∷ 0x0000 ∷ 0x03
+          ∷ 0x0000 ∷ 0x00 ∷ 0x00 ∷ 0x00 ∷ 0x0000 ∷ 0x01
+          ∷ [])
+          ∷ [];
+    }
+
+-- a limit of 33 and a count above the limit, before an unknown cluster; that before a short payload; a short payload before a
+-- short buffer; a short buffer; a leave with no buffer
+unfoldable pub RefusalOrder : Case
+RefusalOrder =
+    record {
+      says =
+          tried (emptyTable 33) 0x0007 [] 0
+          ∷ tried (counting 1 2) 0x0007 [] 0
+          ∷ tried (counting 32 32) 0x0007 [] 0
+          ∷ tried (emptyTable 32) 0x0005 (0x07 ∷ 0x34 ∷ []) 0
+          ∷ tried (emptyTable 32) 0x0005 (0x07 ∷ 0x34 ∷ 0x12 ∷ []) 6
+          ∷ tried (emptyTable 32) 0x0005 (0x07 ∷ 0x34 ∷ 0x12 ∷ []) 7
+          ∷ tried (emptyTable 32) 0x0034 (replicate 10 0x00) 0
+          ∷ tried (emptyTable 32) 0x0034 (replicate 9 0x00) 0
+          ∷ [];
+      expected =
+          refusal 1
+          ∷ refusal 1
+          ∷ refusal 2
+          ∷ refusal 3
+          ∷ refusal 5
+          ∷ answer (0x8005 ∷ 0x07 ∷ 0x00 ∷ 0x34 ∷ 0x12 ∷ 0x02 ∷ 0x01 ∷ 0x02 ∷ [])
+          ∷ answer []
+          ∷ refusal 3
+          ∷ [];
+    }
+
+-- a bind with a buffer of one byte is refused, and then nothing is held; the buffer is as it was, and after an answer behind
+-- the reply
+unfoldable pub Left : Case
+Left =
+    let short : Asked = record { cluster = 0x0021; payload = bindA; room = 1 } in
+    record {
+      says =
+          heard (answered ours (emptyTable 32) short)
+          ∷ answer (runTable ours (emptyTable 32) (short ∷ []) .count ∷ [])
+          ∷ answer (bufferAfter (0xEE ∷ []) (answered ours (emptyTable 32) short))
+          ∷ answer (bufferAfter (0xEE ∷ 0xEE ∷ 0xEE ∷ []) (answered ours (emptyTable 32) (asked 0x0021 bindA)))
+          ∷ answer (written (0xEE ∷ 0xEE ∷ []) (fitted 2 (nodeDescReq 7 (shortOf 0x1234))))
+          ∷ answer (written (0xEE ∷ 0xEE ∷ 0xEE ∷ 0xEE ∷ []) (fitted 4 (nodeDescReq 7 (shortOf 0x1234))))
+          ∷ [];
+      expected =
+          refusal 5
+          ∷ answer (0 ∷ [])
+          ∷ answer (0xEE ∷ [])
+          ∷ answer (0x0A ∷ 0x00 ∷ 0xEE ∷ [])
+          ∷ answer (0xEE ∷ 0xEE ∷ [])
+          ∷ answer (0x07 ∷ 0x34 ∷ 0x12 ∷ 0xEE ∷ [])
+          ∷ [];
+    }
+
+-- what is told of an answer
+abbrev pub toldNumbers : Told → List ℕ
+toldNumbers (replied cluster n) = cluster ∷ n ∷ []
+toldNumbers (leaving q) = q .seq ∷ []
+
+-- a reply is told by its cluster and length, a leave by its request; the room is the length of the buffer
+unfoldable pub Telling : Case
+Telling =
+    record {
+      says =
+          mapped (λ a. toldNumbers (toldOf a)) (answered ours (emptyTable 32) (asking 0x0021 bindA (0xEE ∷ 0xEE ∷ [])))
+          ∷ mapped (λ a. toldNumbers (toldOf a)) (answered ours (emptyTable 32) (asking 0x0021 bindA (0xEE ∷ [])))
+          ∷ mapped (λ a. toldNumbers (toldOf a)) (answered ours (emptyTable 32) (asking 0x0034 (0x07 ∷ replicate 9 0x00) []))
+          ∷ [];
+      expected = answer (0x8021 ∷ 2 ∷ []) ∷ refusal 5 ∷ answer (7 ∷ []) ∷ [];
+    }
+
+-- the address, where there is one
+abbrev pub someAddress : OptionIeeeAddress → List ℕ
+someAddress (optional.Some a) = a .0 ∷ []
+someAddress optional.None = []
+
+-- seq, children, rejoin, and the address, where there is one
+abbrev pub leaveNumbers : MgmtLeaveReq → List ℕ
+leaveNumbers q = q .seq ∷ bit (q .«remove_children») ∷ bit (q .rejoin) ∷ someAddress (q .«device_address»)
+
+-- no address and bit 6; an address and all but bit 6. The address of interest of a node request.
+unfoldable pub LeaveRequest : Case
+LeaveRequest =
+    record {
+      says =
+          mapped leaveNumbers (mgmtLeaveReqIn (0x07 ∷ replicate 8 0x00 ++ 0x40 ∷ []))
+          ∷ mapped leaveNumbers (mgmtLeaveReqIn (0x07 ∷ 0x01 ∷ replicate 7 0x00 ++ 0xBF ∷ []))
+          ∷ mapped (λ a. a .0 ∷ []) (addrOfInterestIn (0x07 ∷ 0x34 ∷ 0x12 ∷ []))
+          ∷ [];
+      expected = answer (7 ∷ 1 ∷ 0 ∷ []) ∷ answer (7 ∷ 0 ∷ 1 ∷ 1 ∷ []) ∷ answer (0x1234 ∷ []) ∷ [];
+    }
