@@ -155,17 +155,25 @@ Linking =
     }
 
 -- A, B and C bound and B unbound: A, C, and the group binding of zeros. An entry is shown as cluster, endpoint, destination
--- address, destination endpoint, group and mode.
+-- address, destination endpoint, group and mode. There are thirty-two places throughout.
 unfoldable pub Shifting : Case
 Shifting =
     record {
-      says = answer (firstKeys (asked 0x0021 bindA ∷ asked 0x0021 bindB ∷ asked 0x0021 bindC ∷ asked 0x0022 bindB ∷ [])) ∷ [];
+      says =
+          answer (firstKeys (asked 0x0021 bindA ∷ asked 0x0021 bindB ∷ asked 0x0021 bindC ∷ asked 0x0022 bindB ∷ []))
+          ∷ answer
+          (length (emptyTable 32 .entries)
+          ∷ length (runTable ours (emptyTable 32) (asked 0x0021 bindA ∷ []) .entries)
+          ∷ length (runTable ours (emptyTable 32) (asked 0x0021 bindA ∷ asked 0x0022 bindA ∷ []) .entries)
+          ∷ [])
+          ∷ [];
       expected =
           answer
           (0x0402 ∷ 0x01 ∷ 0x00 ∷ 0x00 ∷ 0x0003 ∷ 0x01
           ∷ 0x0402 ∷ 0x01 ∷ 0xF8F7_F6F5_F4F3_F2F1 ∷ 0x01 ∷ 0x0000 ∷ 0x03
           ∷ 0x0000 ∷ 0x00 ∷ 0x00 ∷ 0x00 ∷ 0x0000 ∷ 0x01
           ∷ [])
+          ∷ answer (32 ∷ 32 ∷ 32 ∷ [])
           ∷ [];
     }
 
