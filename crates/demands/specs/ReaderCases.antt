@@ -165,7 +165,7 @@ address status behind =
     mapped (λ r. r .seq ∷ r .status ∷ r .«ieee_addr» .0 ∷ r .«nwk_addr» .0 ∷ extension (r .associated))
     (addrReplyIn (0x07 ∷ status ∷ 0x08 ∷ 0x07 ∷ 0x06 ∷ 0x05 ∷ 0x04 ∷ 0x03 ∷ 0x02 ∷ 0x01 ∷ 0x34 ∷ 0x12 ∷ behind))
 
--- 12 bytes, 13, 14, 14 of another status, and 19
+-- 12 bytes, 13, 14, 14 of another status, 18 and 19
 unfoldable pub ReadAddresses : Case
 ReadAddresses =
     record {
@@ -174,6 +174,7 @@ ReadAddresses =
           ∷ address 0x00 (0x00 ∷ [])
           ∷ address 0x00 (0x00 ∷ 0x00 ∷ [])
           ∷ address 0x80 (0x00 ∷ 0x00 ∷ [])
+          ∷ address 0x00 (0x03 ∷ 0x01 ∷ 0x78 ∷ 0x56 ∷ 0x9A ∷ 0x57 ∷ [])
           ∷ address 0x00 (0x03 ∷ 0x01 ∷ 0x78 ∷ 0x56 ∷ 0x9A ∷ 0x57 ∷ 0x00 ∷ [])
           ∷ [];
       expected =
@@ -181,6 +182,7 @@ ReadAddresses =
           ∷ answer (7 ∷ 0x00 ∷ 0x0102_0304_0506_0708 ∷ 0x1234 ∷ [])
           ∷ answer (7 ∷ 0x00 ∷ 0x0102_0304_0506_0708 ∷ 0x1234 ∷ 0 ∷ 0 ∷ 14 ∷ 0 ∷ [])
           ∷ answer (7 ∷ 0x80 ∷ 0x0102_0304_0506_0708 ∷ 0x1234 ∷ [])
+          ∷ answer (7 ∷ 0x00 ∷ 0x0102_0304_0506_0708 ∷ 0x1234 ∷ 3 ∷ 1 ∷ 14 ∷ 2 ∷ [])
           ∷ answer (7 ∷ 0x00 ∷ 0x0102_0304_0506_0708 ∷ 0x1234 ∷ 3 ∷ 1 ∷ 14 ∷ 2 ∷ [])
           ∷ [];
     }
