@@ -2,7 +2,7 @@
 -- sentences give, as literals, on the other.
 use Prim.Native.Nat.{ℕ}
 use mathlib.Core.List.{List, [], _∷_, _++_, map}
-use lib.ListN.{length, take, drop}
+use lib.ListN.{length, take, drop, replicate}
 use Rattle.zigbee_types.specs.Refusals.{refusalNumber}
 use Rattle.zigbee_types.specs.declared.Refusal.the-variants.{BadTables, UnknownCluster, Malformed, TooManyClusters, ShortBuffer}
 use Rattle.zigbee_types.specs.Bytes.{bit, bitAt}
@@ -10,8 +10,8 @@ use Rattle.zigbee_types.specs.Outcome.{Outcome, answer, refusal, mapped, writte
 use Rattle.zigbee_types.specs.Layout.{laid}
 use Rattle.zigbee_types.specs.Addresses.{groupOf}
 use Rattle.zigbee_types.specs.declared.Places.{Places}
-use Rattle.apl_descriptors.specs.NodeDescriptor.{defaultNode, nodeDescriptor, nodeDescriptorIn, nodeFields}
-use Rattle.apl_descriptors.specs.PowerDescriptor.{sourceBitmap, powerDescriptor, powerDescriptorIn, powerFields, supports}
+use Rattle.apl_descriptors.specs.NodeDescriptor.{typeNumber, logicalType, defaultNode, nodeDescriptor, nodeDescriptorIn, nodeFields}
+use Rattle.apl_descriptors.specs.PowerDescriptor.{sourceBitmap, powerDescriptor, powerDescriptorIn, powerFields, supports, modeBits, currentPowerMode, sourceBits, powerSource, levelBits, currentPowerSourceLevel}
 use Rattle.apl_descriptors.specs.Flags.{frequencyBandFlag, macCapabilityFlag, serverMaskFlag, descriptorCapabilityFlag}
 use Rattle.apl_descriptors.specs.SimpleDescriptor.{simpleDescriptorIn}
 use Rattle.apl_descriptors.specs.declared.descriptor.NodeDescriptorConfig.{NodeDescriptorConfig}
@@ -42,7 +42,7 @@ use Rattle.zdo_readers.specs.declared.readers.MatchReply.the-variants.{Matched,
 use Rattle.zdo_readers.specs.declared.readers.OptionAssociated.{OptionAssociated}
 use Rattle.zdo_readers.specs.declared.readers.OptionAssociated.the-variants as associated
 use Rattle.zdo_dispatcher.specs.Answers.{leaving}
-use Rattle.demands.specs.Cases.{Case, typeShown, powerShown, nodeOf}
+use Rattle.demands.specs.Cases.{Case, typeShown, powerShown, nodeOf, modeShown, sourceShown, levelShown}
 
 -- K1's node reply
 abbrev pub nodeReply : List ℕ
@@ -195,19 +195,25 @@ DefaultNode =
       expected = answer (0x01 ∷ 0x00 ∷ 0x00 ∷ 0x00 ∷ 0x00 ∷ 0x00 ∷ 0x00 ∷ 0x00 ∷ 0x00 ∷ 0x00 ∷ 0x00 ∷ 0x00 ∷ 0x00 ∷ []) ∷ [];
     }
 
--- what a node descriptor says in its first two bytes and its two sizes
+-- what a node descriptor says
 abbrev pub nodeShown : NodeDescriptorConfig → List ℕ
 nodeShown n =
     typeShown (n .«logical_type»)
     ∷ bit (n .«complex_descriptor_available»)
     ∷ bit (n .«user_descriptor_available»)
     ∷ n .«frequency_band»
+    ∷ n .«mac_capability_flags»
+    ∷ n .«manufacturer_code»
+    ∷ n .«maximum_buffer_size»
     ∷ n .«maximum_incoming_transfer_size»
+    ∷ n .«server_mask»
     ∷ n .«maximum_outgoing_transfer_size»
+    ∷ n .«descriptor_capability_field»
     ∷ []
 
 -- a reserved type of 9 with a band of 0x28, written; it reads as Router, its band as 8; a reserved type of 5 reads as reserved.
--- Reserved power numbers, written with a union of two sources; a reserved mode and level, read.
+-- A node descriptor whose bytes all differ, read; one whose unused bits are set. Reserved power numbers, written with a union of
+-- two sources; a reserved mode and level, read.
 unfoldable pub ReservedNumbers : Case
 ReservedNumbers =
     record {
@@ -215,6 +221,8 @@ ReservedNumbers =
           answer (laid (nodeDescriptor (nodeOf (type.Reserved 9))))
           ∷ mapped (λ d. nodeShown (nodeFields d)) (nodeDescriptorIn (laid (nodeDescriptor (nodeOf (type.Reserved 9)))))
           ∷ mapped (λ d. nodeShown (nodeFields d)) (nodeDescriptorIn (laid (nodeDescriptor (nodeOf (type.Reserved 5)))))
+          ∷ mapped (λ d. nodeShown (nodeFields d)) (nodeDescriptorIn (0x12 ∷ 0xF8 ∷ 0x81 ∷ 0x02 ∷ 0x03 ∷ 0x04 ∷ 0x05 ∷ 0x06 ∷ 0x07 ∷ 0x08 ∷ 0x09 ∷ 0x0A ∷ 0x0B ∷ []))
+          ∷ mapped (λ d. nodeShown (nodeFields d)) (nodeDescriptorIn (0xFF ∷ 0x07 ∷ replicate 11 0x00))
           ∷ answer
           (laid
           (powerDescriptor
@@ -228,10 +236,39 @@ ReservedNumbers =
           ∷ [];
       expected =
           answer (0x09 ∷ 0x40 ∷ 0x80 ∷ 0xCD ∷ 0xAB ∷ 0x52 ∷ 0x80 ∷ 0x00 ∷ 0x00 ∷ 0x2C ∷ 0x81 ∷ 0x00 ∷ 0x00 ∷ [])
-          ∷ answer (1 ∷ 1 ∷ 0 ∷ 8 ∷ 0x0080 ∷ 0x0081 ∷ [])
-          ∷ answer (0x105 ∷ 1 ∷ 0 ∷ 8 ∷ 0x0080 ∷ 0x0081 ∷ [])
+          ∷ answer (1 ∷ 1 ∷ 0 ∷ 8 ∷ 0x80 ∷ 0xABCD ∷ 0x52 ∷ 0x0080 ∷ 0x2C00 ∷ 0x0081 ∷ 0 ∷ [])
+          ∷ answer (0x105 ∷ 1 ∷ 0 ∷ 8 ∷ 0x80 ∷ 0xABCD ∷ 0x52 ∷ 0x0080 ∷ 0x2C00 ∷ 0x0081 ∷ 0 ∷ [])
+          ∷ answer (2 ∷ 0 ∷ 1 ∷ 31 ∷ 0x81 ∷ 0x0302 ∷ 0x04 ∷ 0x0605 ∷ 0x0807 ∷ 0x0A09 ∷ 0x0B ∷ [])
+          ∷ answer (0x107 ∷ 1 ∷ 1 ∷ 0 ∷ 0 ∷ 0 ∷ 0 ∷ 0 ∷ 0 ∷ 0 ∷ 0 ∷ [])
           ∷ answer (0x5F ∷ 0x38 ∷ [])
           ∷ answer (0x10F ∷ 5 ∷ 4 ∷ 0x103 ∷ [])
+          ∷ [];
+    }
+
+-- the numbers of types, modes, sources and levels, the last of each reserved; and what numbers stand for, the last of each
+-- without a name
+unfoldable pub NamedNumbers : Case
+NamedNumbers =
+    record {
+      says =
+          answer (map typeNumber (type.Coordinator ∷ type.Router ∷ type.EndDevice ∷ type.Reserved 0xFB ∷ []))
+          ∷ answer (map modeBits (mode.Synchronized ∷ mode.Periodically ∷ mode.Stimulated ∷ mode.Reserved 0xF3 ∷ []))
+          ∷ answer (map sourceBits (source.ConstantMainPower ∷ source.RechargeableBattery ∷ source.DisposableBattery ∷ source.Reserved 0xF8 ∷ []))
+          ∷ answer (map levelBits (level.Critical ∷ level.OneThird ∷ level.TwoThirds ∷ level.Full ∷ level.Reserved 0xF1 ∷ []))
+          ∷ answer (map (λ n. typeShown (logicalType n)) (0 ∷ 1 ∷ 2 ∷ 3 ∷ []))
+          ∷ answer (map (λ n. modeShown (currentPowerMode n)) (0 ∷ 1 ∷ 2 ∷ 3 ∷ []))
+          ∷ answer (map (λ n. sourceShown (powerSource n)) (1 ∷ 2 ∷ 4 ∷ 8 ∷ []))
+          ∷ answer (map (λ n. levelShown (currentPowerSourceLevel n)) (0 ∷ 4 ∷ 8 ∷ 12 ∷ 1 ∷ []))
+          ∷ [];
+      expected =
+          answer (0 ∷ 1 ∷ 2 ∷ 3 ∷ [])
+          ∷ answer (0 ∷ 1 ∷ 2 ∷ 3 ∷ [])
+          ∷ answer (1 ∷ 2 ∷ 4 ∷ 8 ∷ [])
+          ∷ answer (0 ∷ 4 ∷ 8 ∷ 12 ∷ 1 ∷ [])
+          ∷ answer (0 ∷ 1 ∷ 2 ∷ 0x103 ∷ [])
+          ∷ answer (0 ∷ 1 ∷ 2 ∷ 0x103 ∷ [])
+          ∷ answer (1 ∷ 2 ∷ 4 ∷ 0x108 ∷ [])
+          ∷ answer (0 ∷ 4 ∷ 8 ∷ 12 ∷ 0x101 ∷ [])
           ∷ [];
     }
 
