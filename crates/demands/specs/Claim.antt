@@ -5,7 +5,7 @@ use Rattle.demands.specs.Cases.{Case}
 use Rattle.demands.specs.CounterCases.{K1, K2, K3, K4, K5, K6, K7, K8, K9, K10, K11, Sample}
 use Rattle.demands.specs.DispatchCases.{NwkAddr, IeeeAddr, Elsewhere, Ours, Linking, Shifting, RefusalOrder, Left, Telling, LeaveRequest}
 use Rattle.demands.specs.DeviceCases.{Matching, Repeated, LongList, Parts, TableChecks, Links}
-use Rattle.demands.specs.ReaderCases.{ReadDescriptors, ReadLists, ReadSimple, ReadAddresses, DefaultNode, ReservedNumbers, NamedNumbers, FlagBits, StatusCodes}
+use Rattle.demands.specs.ReaderCases.{ReadDescriptors, ReadLists, ReadSimple, ReadAddresses, DefaultNode, ReservedNumbers, NamedNumbers, SourceSets, FlagBits, StatusCodes}
 
 -- K1 to K11, the sample, and the cases of the other rules
 unfoldable pub cases : List Case
@@ -13,7 +13,7 @@ cases =
     K1 ∷ K2 ∷ K3 ∷ K4 ∷ K5 ∷ K6 ∷ K7 ∷ K8 ∷ K9 ∷ K10 ∷ K11 ∷ Sample
     ∷ NwkAddr ∷ IeeeAddr ∷ Elsewhere ∷ Ours ∷ Linking ∷ Shifting ∷ RefusalOrder ∷ Left ∷ Telling ∷ LeaveRequest
     ∷ Matching ∷ Repeated ∷ LongList ∷ Parts ∷ TableChecks ∷ Links
-    ∷ ReadDescriptors ∷ ReadLists ∷ ReadSimple ∷ ReadAddresses ∷ DefaultNode ∷ ReservedNumbers ∷ NamedNumbers ∷ FlagBits ∷ StatusCodes
+    ∷ ReadDescriptors ∷ ReadLists ∷ ReadSimple ∷ ReadAddresses ∷ DefaultNode ∷ ReservedNumbers ∷ NamedNumbers ∷ SourceSets ∷ FlagBits ∷ StatusCodes
     ∷ []
 
 -- in each entry the definitions say what document 01 says

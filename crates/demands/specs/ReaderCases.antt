@@ -21,6 +21,7 @@ use Rattle.apl_descriptors.specs.declared.node_descriptor.MacCapabilityFlag.the
 use Rattle.apl_descriptors.specs.declared.node_descriptor.ServerMaskFlag.the-variants.{PrimaryTrustCenter, BackupTrustCenter, PrimaryBindingTableCache, BackupBindingTableCache, PrimaryDiscoveryCache, BackupDiscoveryCache, NetworkManager}
 use Rattle.apl_descriptors.specs.declared.node_descriptor.DescriptorCapabilityFlag.the-variants.{ExtendedActiveEndpontListAvailable, ExtendedSimpleDescriptorListAvailable}
 use Rattle.apl_descriptors.specs.declared.node_power_descriptor.CurrentPowerMode.the-variants as mode
+use Rattle.apl_descriptors.specs.declared.node_power_descriptor.PowerSource.{PowerSource as Source}
 use Rattle.apl_descriptors.specs.declared.node_power_descriptor.PowerSource.the-variants as source
 use Rattle.apl_descriptors.specs.declared.node_power_descriptor.CurrentPowerSourceLevel.the-variants as level
 use Rattle.aps_binding.specs.Entry.{groupBinding, routes}
@@ -131,13 +132,14 @@ simpleNumbers (simple.Some d) =
 abbrev pub simpleBytes : List ℕ
 simpleBytes = 0x01 ∷ 0x04 ∷ 0x01 ∷ 0x02 ∷ 0x03 ∷ 0x11 ∷ 0x01 ∷ 0x02 ∷ 0x04 ∷ 0x00 ∷ []
 
--- alone; with an output of one byte; in a reply of another status, with a byte to spare; with a length one short; with a length one past the reply; with
+-- alone; with an output of two bytes and of one; in a reply of another status, with a byte to spare; with a length one short; with a length one past the reply; with
 -- length 0
 unfoldable pub ReadSimple : Case
 ReadSimple =
     record {
       says =
           mapped (λ d. simpleNumbers (simple.Some d)) (simpleDescriptorIn simpleBytes)
+          ∷ mapped (λ d. simpleNumbers (simple.Some d)) (simpleDescriptorIn (0x01 ∷ 0x04 ∷ 0x01 ∷ 0x02 ∷ 0x03 ∷ 0x01 ∷ 0x00 ∷ 0x01 ∷ 0x19 ∷ 0x00 ∷ []))
           ∷ mapped (λ d. simpleNumbers (simple.Some d)) (simpleDescriptorIn (0x01 ∷ 0x04 ∷ 0x01 ∷ 0x02 ∷ 0x03 ∷ 0x01 ∷ 0x00 ∷ 0x01 ∷ 0x19 ∷ []))
           ∷ mapped (λ r. simpleNumbers (r .descriptor)) (simpleReplyIn (0x07 ∷ 0x83 ∷ 0x34 ∷ 0x12 ∷ 0x0B ∷ simpleBytes ++ 0x00 ∷ []))
           ∷ mapped (λ r. simpleNumbers (r .descriptor)) (simpleReplyIn (0x07 ∷ 0x00 ∷ 0x34 ∷ 0x12 ∷ 0x09 ∷ simpleBytes))
@@ -146,6 +148,7 @@ ReadSimple =
           ∷ [];
       expected =
           answer (1 ∷ 0x0104 ∷ 0x0302 ∷ 1 ∷ 7 ∷ 1 ∷ 10 ∷ 0 ∷ [])
+          ∷ answer (1 ∷ 0x0104 ∷ 0x0302 ∷ 1 ∷ 7 ∷ 0 ∷ 8 ∷ 1 ∷ [])
           ∷ refusal 3
           ∷ answer (1 ∷ 0x0104 ∷ 0x0302 ∷ 1 ∷ 12 ∷ 1 ∷ 15 ∷ 0 ∷ [])
           ∷ refusal 3
@@ -272,8 +275,42 @@ NamedNumbers =
           ∷ [];
     }
 
--- the bits of the flags, kind by kind; a bit that is set, and one that is not; what is available in byte 0 of a power
--- descriptor; what an entry routes
+-- is a source available by byte 0 of a power descriptor?
+abbrev pub available : Source → ℕ → ℕ
+available s n = bit (supports (record { «byte0» = n; «byte1» = 0 }) s)
+
+-- bitmaps of one number each, of none and of three; each bit of the available sources against each source; the current sources
+-- 1, 2 and 8, each available, read
+unfoldable pub SourceSets : Case
+SourceSets =
+    record {
+      says =
+          answer (map sourceBitmap ((0x01 ∷ []) ∷ (0x02 ∷ []) ∷ (0x04 ∷ []) ∷ (0x08 ∷ []) ∷ (0xF0 ∷ []) ∷ [] ∷ (0x11 ∷ 0x04 ∷ 0x05 ∷ []) ∷ []))
+          ∷ answer (map (available source.ConstantMainPower) (0x10 ∷ 0x20 ∷ 0x40 ∷ 0x80 ∷ 0x0F ∷ []))
+          ∷ answer (map (available source.RechargeableBattery) (0x10 ∷ 0x20 ∷ 0x40 ∷ 0x80 ∷ 0x0F ∷ []))
+          ∷ answer (map (available source.DisposableBattery) (0x10 ∷ 0x20 ∷ 0x40 ∷ 0x80 ∷ 0x0F ∷ []))
+          ∷ answer (map (available (source.Reserved 0x08)) (0x10 ∷ 0x20 ∷ 0x40 ∷ 0x80 ∷ 0x0F ∷ []))
+          ∷ answer (map (available (source.Reserved 0x0C)) (0x10 ∷ 0x20 ∷ 0x40 ∷ 0x80 ∷ 0x0F ∷ []))
+          ∷ mapped (λ d. powerShown (powerFields d)) (powerDescriptorIn (0x10 ∷ 0x01 ∷ []))
+          ∷ mapped (λ d. powerShown (powerFields d)) (powerDescriptorIn (0x20 ∷ 0x02 ∷ []))
+          ∷ mapped (λ d. powerShown (powerFields d)) (powerDescriptorIn (0x80 ∷ 0x08 ∷ []))
+          ∷ mapped (λ d. powerShown (powerFields d)) (powerDescriptorIn (0x10 ∷ []))
+          ∷ [];
+      expected =
+          answer (1 ∷ 2 ∷ 4 ∷ 8 ∷ 0 ∷ 0 ∷ 5 ∷ [])
+          ∷ answer (1 ∷ 0 ∷ 0 ∷ 0 ∷ 0 ∷ [])
+          ∷ answer (0 ∷ 1 ∷ 0 ∷ 0 ∷ 0 ∷ [])
+          ∷ answer (0 ∷ 0 ∷ 1 ∷ 0 ∷ 0 ∷ [])
+          ∷ answer (0 ∷ 0 ∷ 0 ∷ 1 ∷ 0 ∷ [])
+          ∷ answer (0 ∷ 0 ∷ 1 ∷ 1 ∷ 0 ∷ [])
+          ∷ answer (0 ∷ 1 ∷ 1 ∷ 0 ∷ [])
+          ∷ answer (0 ∷ 2 ∷ 2 ∷ 0 ∷ [])
+          ∷ refusal 3
+          ∷ refusal 3
+          ∷ [];
+    }
+
+-- the bits of the flags, kind by kind; a bit that is set, and one that is not; what an entry routes
 unfoldable pub FlagBits : Case
 FlagBits =
     record {
@@ -283,12 +320,6 @@ FlagBits =
           ∷ answer (map serverMaskFlag (PrimaryTrustCenter ∷ BackupTrustCenter ∷ PrimaryBindingTableCache ∷ BackupBindingTableCache ∷ PrimaryDiscoveryCache ∷ BackupDiscoveryCache ∷ NetworkManager ∷ []))
           ∷ answer (map descriptorCapabilityFlag (ExtendedActiveEndpontListAvailable ∷ ExtendedSimpleDescriptorListAvailable ∷ []))
           ∷ answer (map bit (bitAt (serverMaskFlag NetworkManager) 0x2C40 ∷ bitAt (serverMaskFlag PrimaryTrustCenter) 0x2C40 ∷ []))
-          ∷ answer
-          (map bit
-          (supports (record { «byte0» = 0x42; «byte1» = 0x84 }) source.DisposableBattery
-          ∷ supports (record { «byte0» = 0x42; «byte1» = 0x84 }) source.RechargeableBattery
-          ∷ supports (record { «byte0» = 0x42; «byte1» = 0x84 }) (source.Reserved 0x0C)
-          ∷ []))
           ∷ answer (map bit (routes (groupBinding 1 0x0402 (groupOf 3)) 1 0x0402 ∷ routes (groupBinding 1 0x0402 (groupOf 3)) 2 0x0402 ∷ routes (groupBinding 1 0x0402 (groupOf 3)) 1 0x0403 ∷ []))
           ∷ [];
       expected =
@@ -297,7 +328,6 @@ FlagBits =
           ∷ answer (0 ∷ 1 ∷ 2 ∷ 3 ∷ 4 ∷ 5 ∷ 6 ∷ [])
           ∷ answer (0 ∷ 1 ∷ [])
           ∷ answer (1 ∷ 0 ∷ [])
-          ∷ answer (1 ∷ 0 ∷ 1 ∷ [])
           ∷ answer (1 ∷ 0 ∷ 0 ∷ [])
           ∷ [];
     }
