@@ -1,13 +1,12 @@
 -- The fields that share a byte stand where document 01 puts them. Assumes nothing.
-use Prim.Native.Nat.{ℕ, _+_, _*_, _/_, _%_, _^_, _<_}
+use Prim.Native.Nat.{ℕ, _/_, _%_, _^_, _<_}
 use native.Mathlib.Omega.{arith}
-use mathlib.Core.Path.{_≡_, refl}
+use mathlib.Core.Path.{_≡_}
 use mathlib.Core.Bool.{Bool, true, false}
-use borrow.Author.Tests.{eq-eqb, ne-eqb}
-use lib.Dec.{eqb}
+use borrow.Author.Tests.{eq-eqb}
 use Rattle.zigbee_types.specs.Bytes.{bit, bitAt}
 use Rattle.apl_descriptors.specs.NodeDescriptor.{typeNumber, nodeByte0, nodeByte1}
-use Rattle.apl_descriptors.specs.PowerDescriptor.{modeBits, sourceBits, levelBits, powerByte0, powerByte1}
+use Rattle.apl_descriptors.specs.PowerDescriptor.{modeBits, sourceBits, powerByte0, powerByte1}
 use Rattle.apl_descriptors.specs.Bits.{NodeBitsStand, PowerBitsStand}
 use Rattle.apl_descriptors.specs.declared.node_descriptor.LogicalType.{LogicalType}
 use Rattle.apl_descriptors.specs.declared.node_descriptor.LogicalType.the-variants.{Coordinator, Router, EndDevice, Reserved}

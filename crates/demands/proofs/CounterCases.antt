@@ -19,7 +19,7 @@ use Rattle.zdo_replies.specs.Replies.{header, nodeDescRsp, powerDescRsp, descri
 use Rattle.zdo_readers.specs.Readers.{headerWidths, headerIn, nodeIn, nodeReplyIn, powerIn, powerReplyIn, serverMaskIn, nodeDescRspIn, stackRevisionOf, listReplyIn, matchErrorWidths, matchReplyInAs, matchReplyIn, shifted, shiftedFields, simpleWithin, simpleIn, simpleReplyIn, associatedIn, addrWidths, addrReplyIn, statusWidths, statusReplyIn}
 use Rattle.zdo_device.specs.Tables.{used, endpointRecord, supportsEndpoint, recordFits, goodRecords, goodDevice, endpointOf, resolvedIn, clustersOf, endpointClusters}
 use Rattle.zdo_device.specs.Matching.{wanted, profileMatches, shared, matches, matchList, goodPlaces, matchedRecords, matchingEndpoints}
-use Rattle.zdo_device.specs.TableReplies.{activeRspOf, activeEpRsp, simpleRspOf, simpleDescRsp}
+use Rattle.zdo_device.specs.TableReplies.{activeRspOf, activeRecords, activeEpRsp, simpleRspOf, simpleDescRsp}
 use Rattle.zdo_dispatcher.specs.Host.{asking, goodHost, resolved}
 use Rattle.zdo_dispatcher.specs.Discovery.{ourAddress, onNwkAddr, onIeeeAddr, notOurs, about, onNode, onPower, onSimple, onActive, onMatch, discovery, discovered}
 use Rattle.zdo_dispatcher.specs.Answers.{linkStepAs, linkStep, onLink, byCluster, answered, tableAfter, bufferAfter, toldOf, run, runTable}
@@ -30,5 +30,5 @@ use Rattle.demands.specs.ReaderCases.{ReadDescriptors, ReadLists, ReadSi
 use Rattle.demands.specs.Claim.{cases, CounterCases}
 
 pub counter-cases : CounterCases
-unfolding any all filter find option andThen mapped needing fitted written begunLength begun le number numberAt bitAt bit laid size fieldsAt parsed counted behind entriesAt named typeNumber logicalType defaultNode nodeByte0 nodeByte1 nodeDescriptor nodeWidths nodeDescriptorIn nodeFields stackRevision frequencyBandFlag macCapabilityFlag serverMaskFlag descriptorCapabilityFlag modeBits currentPowerMode sourceBits powerSource levelBits currentPowerSourceLevel sourceBitmap powerByte0 powerByte1 powerDescriptor powerWidths powerFields common supports usable powerDescriptorIn clusterList simpleHeader simpleDescriptor clusterCount simpleWritten simpleWidths simpleOf simpleDescriptorIn groupBinding deviceBinding unused routes key alike same holds without boundAs bound unboundAs unbound emptyTable goodTable held placed linked createBindingLink removeBindingLink nwkAddrReqIn ieeeAddrReqIn addrOfInterestWidths addrOfInterestReqIn addrOfInterestIn simpleDescReqIn matchReqOf matchDescReqIn bindReqOf groupReqIn deviceReqIn bindReqIn bindingTo bindingOf optionIeee mgmtLeaveReqIn addrOfInterestFields nodeDescReq bindCode discoveryCode leaveStatus header nodeDescRsp powerDescRsp descriptorRspError listRsp emptyRsp matchErrorFields matchDescRspError describedRsp addrHeader addrRspSingle addrRspExtended addrRsp statusFields statusRsp headerWidths headerIn nodeIn nodeReplyIn powerIn powerReplyIn serverMaskIn nodeDescRspIn stackRevisionOf listReplyIn matchErrorWidths matchReplyInAs matchReplyIn shifted shiftedFields simpleWithin simpleIn simpleReplyIn associatedIn addrWidths addrReplyIn statusWidths statusReplyIn used endpointRecord supportsEndpoint recordFits goodRecords goodDevice endpointOf resolvedIn clustersOf endpointClusters wanted profileMatches shared matches matchList goodPlaces matchedRecords matchingEndpoints activeRspOf activeEpRsp simpleRspOf simpleDescRsp asking goodHost resolved ourAddress onNwkAddr onIeeeAddr notOurs about onNode onPower onSimple onActive onMatch discovery discovered linkStepAs linkStep onLink byCluster answered tableAfter bufferAfter toldOf run runTable K1 K2 K3 K4 K5 K6 K7 K8 K9 K10 K11 Sample NwkAddr IeeeAddr Elsewhere Ours Linking Shifting RefusalOrder Left Telling LeaveRequest Matching Repeated LongList Parts TableChecks Links ReadDescriptors ReadLists ReadSimple ReadAddresses DefaultNode ReservedNumbers NamedNumbers SourceSets FlagBits StatusCodes cases CounterCases
+unfolding any all filter find option andThen mapped needing fitted written begunLength begun le number numberAt bitAt bit laid size fieldsAt parsed counted behind entriesAt named typeNumber logicalType defaultNode nodeByte0 nodeByte1 nodeDescriptor nodeWidths nodeDescriptorIn nodeFields stackRevision frequencyBandFlag macCapabilityFlag serverMaskFlag descriptorCapabilityFlag modeBits currentPowerMode sourceBits powerSource levelBits currentPowerSourceLevel sourceBitmap powerByte0 powerByte1 powerDescriptor powerWidths powerFields common supports usable powerDescriptorIn clusterList simpleHeader simpleDescriptor clusterCount simpleWritten simpleWidths simpleOf simpleDescriptorIn groupBinding deviceBinding unused routes key alike same holds without boundAs bound unboundAs unbound emptyTable goodTable held placed linked createBindingLink removeBindingLink nwkAddrReqIn ieeeAddrReqIn addrOfInterestWidths addrOfInterestReqIn addrOfInterestIn simpleDescReqIn matchReqOf matchDescReqIn bindReqOf groupReqIn deviceReqIn bindReqIn bindingTo bindingOf optionIeee mgmtLeaveReqIn addrOfInterestFields nodeDescReq bindCode discoveryCode leaveStatus header nodeDescRsp powerDescRsp descriptorRspError listRsp emptyRsp matchErrorFields matchDescRspError describedRsp addrHeader addrRspSingle addrRspExtended addrRsp statusFields statusRsp headerWidths headerIn nodeIn nodeReplyIn powerIn powerReplyIn serverMaskIn nodeDescRspIn stackRevisionOf listReplyIn matchErrorWidths matchReplyInAs matchReplyIn shifted shiftedFields simpleWithin simpleIn simpleReplyIn associatedIn addrWidths addrReplyIn statusWidths statusReplyIn used endpointRecord supportsEndpoint recordFits goodRecords goodDevice endpointOf resolvedIn clustersOf endpointClusters wanted profileMatches shared matches matchList goodPlaces matchedRecords matchingEndpoints activeRspOf activeRecords activeEpRsp simpleRspOf simpleDescRsp asking goodHost resolved ourAddress onNwkAddr onIeeeAddr notOurs about onNode onPower onSimple onActive onMatch discovery discovered linkStepAs linkStep onLink byCluster answered tableAfter bufferAfter toldOf run runTable K1 K2 K3 K4 K5 K6 K7 K8 K9 K10 K11 Sample NwkAddr IeeeAddr Elsewhere Ours Linking Shifting RefusalOrder Left Telling LeaveRequest Matching Repeated LongList Parts TableChecks Links ReadDescriptors ReadLists ReadSimple ReadAddresses DefaultNode ReservedNumbers NamedNumbers SourceSets FlagBits StatusCodes cases CounterCases
 counter-cases = refl

@@ -1,5 +1,5 @@
 -- Readers and writers have one table of widths, and each reply has document 01's length. Assumes nothing.
-use Prim.Native.Nat.{ℕ, min, _+_, _*_, _≤_}
+use Prim.Native.Nat.{ℕ, _+_, _*_, _≤_}
 use native.Mathlib.Omega.{arith}
 use mathlib.Core.Path.{_≡_, refl, ap}
 use mathlib.Core.List.{List, [], _∷_, _++_, map}
@@ -8,7 +8,6 @@ use borrow.Author.Tests.{le-leb}
 use Rattle.zigbee_types.specs.Outcome.{answer, andThen, mapped}
 use Rattle.zigbee_types.specs.Bytes.{le, number, numberAt}
 use Rattle.zigbee_types.specs.Layout.{byte, word, laid, size}
-use Rattle.zigbee_types.specs.Addresses.{ieee, short}
 use Rattle.zigbee_types.specs.FieldLaws.{widths}
 use Rattle.zigbee_types.specs.Statuses.{SUCCESS}
 use Rattle.zigbee_types.specs.declared.ShortAddress.{ShortAddress}

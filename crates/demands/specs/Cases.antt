@@ -22,7 +22,7 @@ use Rattle.zdo_dispatcher.specs.Host.{Asked}
 use Rattle.zdo_dispatcher.specs.Answers.{Answer, reply, leave, answered}
 use Rattle.demands.specs.OurDevice.{ourPools, ourDescriptors, ours}
 
--- what the definitions say, and what document 01 says, as literals
+-- what the definitions say; and what document 01 says, or where it is silent the Rust or docs/DECISIONS.md, as literals
 pub record Case : Type 0 where
   pub says : List (Outcome (List ℕ))
   pub expected : List (Outcome (List ℕ))
@@ -70,7 +70,7 @@ replies cluster payload = tried (emptyTable 32) cluster payload 128
 abbrev pub counting : ℕ → ℕ → BindingTable
 counting limit count = record { entries = emptyTable 32 .entries; limit = limit; count = count }
 
--- ---- numbers with names, so that a reserved one is told from a named one: it stands above 256
+-- ---- numbers with names, so that a reserved one is told from a named one: 256 is added to it
 
 -- a logical type
 abbrev pub typeShown : LogicalType → ℕ

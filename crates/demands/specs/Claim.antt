@@ -16,6 +16,6 @@ cases =
     ∷ ReadDescriptors ∷ ReadLists ∷ ReadSimple ∷ ReadAddresses ∷ DefaultNode ∷ ReservedNumbers ∷ NamedNumbers ∷ SourceSets ∷ FlagBits ∷ StatusCodes
     ∷ []
 
--- in each entry the definitions say what document 01 says
+-- in each entry the definitions say what is expected of them
 unfoldable pub CounterCases : Type 0
 CounterCases = map (λ c. c .says) cases ≡ map (λ c. c .expected) cases

@@ -88,12 +88,12 @@ abbrev pub crowdedLength : ℕ → ℕ → Outcome (List ℕ)
 crowdedLength inputs outputs =
     mapped (λ bytes. length bytes ∷ []) (simpleDescRsp 7 (ours .«nwk_addr») (record { inputs = replicate 29 0x0006; outputs = replicate 29 0x0019 }) (crowded inputs outputs) 1)
 
--- K6: 28 clusters, on one side and on both; and 29, likewise
+-- K6: 28 clusters, on one side and on both; and 29, likewise, and without room for the reply
 unfoldable pub K6 : Case
 K6 =
     record {
-      says = crowdedLength 28 0 ∷ crowdedLength 20 8 ∷ crowdedLength 29 0 ∷ crowdedLength 28 1 ∷ [];
-      expected = answer (69 ∷ []) ∷ answer (69 ∷ []) ∷ refusal 4 ∷ refusal 4 ∷ [];
+      says = crowdedLength 28 0 ∷ crowdedLength 20 8 ∷ crowdedLength 29 0 ∷ crowdedLength 28 1 ∷ fitted 0 (crowdedLength 29 0) ∷ [];
+      expected = answer (69 ∷ []) ∷ answer (69 ∷ []) ∷ refusal 4 ∷ refusal 4 ∷ refusal 4 ∷ [];
     }
 
 -- K7: input 0x0402 of profile 0x0104 is endpoint 1's

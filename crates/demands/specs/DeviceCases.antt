@@ -3,7 +3,7 @@
 use Prim.Native.Nat.{ℕ}
 use mathlib.Core.List.{List, [], _∷_, map}
 use lib.ListN.{length, take, replicate}
-use Rattle.zigbee_types.specs.Outcome.{answer, refusal, mapped}
+use Rattle.zigbee_types.specs.Outcome.{answer, refusal, mapped, begunLength, begun}
 use Rattle.zigbee_types.specs.Addresses.{ieeeOf, shortOf}
 use Rattle.aps_binding.specs.Entry.{deviceBinding, unused, key}
 use Rattle.aps_binding.specs.Table.{Linked, emptyTable, createBindingLink, removeBindingLink}
@@ -11,26 +11,37 @@ use Rattle.zdo_requests.specs.declared.descriptor.MatchDescReq.{MatchDescReq}
 use Rattle.zdo_replies.specs.Replies.{listRsp}
 use Rattle.zdo_device.specs.Tables.{endpointClusters}
 use Rattle.zdo_device.specs.Matching.{matchedRecords, matchingEndpoints}
-use Rattle.zdo_device.specs.TableReplies.{activeEpRsp, simpleDescRsp}
+use Rattle.zdo_device.specs.TableReplies.{activeRecords, activeEpRsp, simpleDescRsp}
 use Rattle.zdo_device.specs.declared.descriptor.DeviceDescriptorConfig.{DeviceDescriptorConfig}
 use Rattle.zdo_device.specs.declared.descriptor.Side.the-variants.{Input, Output}
-use Rattle.zdo_dispatcher.specs.Answers.{run}
 use Rattle.demands.specs.OurDevice.{ourNode, ourPower, endpoint1, endpoint2, ourPools, ourDescriptors}
-use Rattle.demands.specs.Cases.{Case, asked, found, counting, joined}
+use Rattle.demands.specs.Cases.{Case, found, counting, joined}
 
--- another profile; 0xFFFF with an input that both endpoints have; an output; an output asked for as an input; the second of two
+-- a list that is shorter than the buffer: how many are written, and the buffer then. Another profile; 0xFFFF with an input that both endpoints have; an output; an output asked for as an input; the second of two
 -- inputs
 unfoldable pub Matching : Case
 Matching =
     record {
       says =
-          found (0x09 ∷ 0x34 ∷ 0x12 ∷ 0x05 ∷ 0x01 ∷ 0x01 ∷ 0x00 ∷ 0x00 ∷ 0x00 ∷ [])
+          mapped (λ n. n ∷ []) (begunLength (0xEE ∷ 0xEE ∷ 0xEE ∷ []) (found (0x09 ∷ 0x34 ∷ 0x12 ∷ 0x04 ∷ 0x01 ∷ 0x01 ∷ 0x02 ∷ 0x04 ∷ 0x00 ∷ [])))
+          ∷ answer (begun (0xEE ∷ 0xEE ∷ 0xEE ∷ []) (found (0x09 ∷ 0x34 ∷ 0x12 ∷ 0x04 ∷ 0x01 ∷ 0x01 ∷ 0x02 ∷ 0x04 ∷ 0x00 ∷ [])))
+          ∷ answer (begun (0xEE ∷ 0xEE ∷ []) (found []))
+          ∷ found (0x09 ∷ 0x34 ∷ 0x12 ∷ 0x05 ∷ 0x01 ∷ 0x01 ∷ 0x00 ∷ 0x00 ∷ 0x00 ∷ [])
           ∷ found (0x09 ∷ 0x34 ∷ 0x12 ∷ 0xFF ∷ 0xFF ∷ 0x01 ∷ 0x00 ∷ 0x00 ∷ 0x00 ∷ [])
           ∷ found (0x09 ∷ 0x34 ∷ 0x12 ∷ 0x04 ∷ 0x01 ∷ 0x00 ∷ 0x01 ∷ 0x19 ∷ 0x00 ∷ [])
           ∷ found (0x09 ∷ 0x34 ∷ 0x12 ∷ 0x04 ∷ 0x01 ∷ 0x01 ∷ 0x19 ∷ 0x00 ∷ 0x00 ∷ [])
           ∷ found (0x09 ∷ 0x34 ∷ 0x12 ∷ 0x04 ∷ 0x01 ∷ 0x02 ∷ 0x19 ∷ 0x00 ∷ 0x00 ∷ 0x05 ∷ 0x00 ∷ [])
           ∷ [];
-      expected = answer [] ∷ answer (1 ∷ 2 ∷ []) ∷ answer (1 ∷ []) ∷ answer [] ∷ answer (2 ∷ []) ∷ [];
+      expected =
+          answer (1 ∷ [])
+          ∷ answer (1 ∷ 0xEE ∷ 0xEE ∷ [])
+          ∷ answer (0xEE ∷ 0xEE ∷ [])
+          ∷ answer []
+          ∷ answer (1 ∷ 2 ∷ [])
+          ∷ answer (1 ∷ [])
+          ∷ answer []
+          ∷ answer (2 ∷ [])
+          ∷ [];
     }
 
 -- a match request of one input and no outputs, which are said to stand at places
@@ -117,14 +128,34 @@ Parts =
 abbrev pub ofCount : ℕ → DeviceDescriptorConfig
 ofCount n = record { node = ourNode; power = ourPower; endpoints = ourDescriptors .endpoints; «endpoint_count» = n }
 
--- a count of 33, of each function that takes it; a pool of 513 clusters, of inputs and of outputs, and one that a record runs
--- past; a run of 32 records, and of 33; places that end with the payload, and one past it, of inputs and of outputs
+-- one record of endpoint 1, which starts so far into its pools and has no clusters
+abbrev pub startingAt : ℕ → ℕ → DeviceDescriptorConfig
+startingAt inputs outputs =
+    record {
+      node = ourNode;
+      power = ourPower;
+      endpoints = replicate 32
+          (record { endpoint = 1; «device_version» = 0; «profile_id» = 0x0104; «device_id» = 0x0302; «input_start» = inputs; «input_count» = 0; «output_start» = outputs; «output_count» = 0 });
+      «endpoint_count» = 1;
+    }
+
+-- a count of 33, of active, simple, matching and an endpoint's part, and one of 3; a run of 33 records in the active list; pools
+-- of 513 clusters, of inputs and of outputs, and of 512; a record that starts at the end of its pool, and past it, of inputs and
+-- of outputs; an input past its pool; matching over a run of 32 records, and of 33; a pool that is too short before places that
+-- are; places that end with the payload, and one past it, of inputs and of outputs
 unfoldable pub TableChecks : Case
 TableChecks =
     record {
       says =
           activeEpRsp 7 (shortOf 0x1234) (ofCount 33)
           ∷ activeEpRsp 7 (shortOf 0x1234) (ofCount 3)
+          ∷ mapped (λ bytes. length bytes ∷ []) (activeRecords 7 (shortOf 0x1234) (replicate 32 endpoint1))
+          ∷ activeRecords 7 (shortOf 0x1234) (replicate 33 endpoint1)
+          ∷ answer (endpointClusters ourPools (ofCount 33) Input 1)
+          ∷ mapped (λ bytes. length bytes ∷ []) (simpleDescRsp 7 (shortOf 0x1234) ourPools (startingAt 4 1) 1)
+          ∷ simpleDescRsp 7 (shortOf 0x1234) ourPools (startingAt 5 1) 1
+          ∷ simpleDescRsp 7 (shortOf 0x1234) ourPools (startingAt 4 2) 1
+          ∷ simpleDescRsp 7 (shortOf 0x1234) (record { inputs = 0x0000 ∷ []; outputs = ourPools .outputs }) ourDescriptors 3
           ∷ simpleDescRsp 7 (shortOf 0x1234) ourPools (ofCount 33) 1
           ∷ simpleDescRsp 7 (shortOf 0x1234) (record { inputs = replicate 513 0x0006; outputs = ourPools .outputs }) ourDescriptors 3
           ∷ simpleDescRsp 7 (shortOf 0x1234) (record { inputs = ourPools .inputs; outputs = replicate 513 0x0019 }) ourDescriptors 3
@@ -140,6 +171,13 @@ TableChecks =
       expected =
           refusal 1
           ∷ answer (0x07 ∷ 0x00 ∷ 0x34 ∷ 0x12 ∷ 0x03 ∷ 0x01 ∷ 0x02 ∷ 0x02 ∷ [])
+          ∷ answer (37 ∷ [])
+          ∷ refusal 1
+          ∷ answer []
+          ∷ answer (13 ∷ [])
+          ∷ refusal 1
+          ∷ refusal 1
+          ∷ refusal 1
           ∷ refusal 1
           ∷ refusal 1
           ∷ refusal 1
@@ -158,7 +196,7 @@ TableChecks =
 abbrev pub linkNumbers : Linked → List ℕ
 linkNumbers l = l .status ∷ l .table .count ∷ l .table .limit ∷ joined (map key (take 1 (l .table .entries)))
 
--- of a table of zeros of which some are held: a device binding is bound with room, in a full table and in an empty one; the
+-- of tables of zeros, some of them held in four: a device binding is bound with room, in a full table and in an empty one; the
 -- group binding of zeros is bound with a limit of 33, and unbound where it is held, where nothing is, and with a count above
 -- the limit
 unfoldable pub Links : Case

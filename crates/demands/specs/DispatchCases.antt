@@ -16,7 +16,7 @@ use Rattle.zdo_requests.specs.declared.descriptor.OptionIeeeAddress.{OptionIeee
 use Rattle.zdo_requests.specs.declared.descriptor.OptionIeeeAddress.the-variants as optional
 use Rattle.zdo_dispatcher.specs.Host.{Asked, asking}
 use Rattle.zdo_dispatcher.specs.Answers.{Told, replied, leaving, toldOf, answered, bufferAfter, run, runTable}
-use Rattle.demands.specs.OurDevice.{ourPower, ourPools, ourDescriptors, ours}
+use Rattle.demands.specs.OurDevice.{ourNode, ourPower, ourPools, ourDescriptors, ours}
 use Rattle.demands.specs.Cases.{Case, asked, heard, statusOf, bindHead, bindA, bindB, bindC, tried, replies, counting, joined, nodeOf}
 
 -- a NWK_addr_req for our IEEE address, of a type
@@ -77,7 +77,7 @@ elsewhere t =
     (emptyTable 32)
     (asked 0x0002 (0x07 ∷ 0x78 ∷ 0x56 ∷ [])))
 
--- an end device, by cluster; then a node request to other types
+-- an end device, by cluster; then a node request to each type, one of them reserved
 unfoldable pub Elsewhere : Case
 Elsewhere =
     record {
@@ -177,13 +177,29 @@ Shifting =
           ∷ [];
     }
 
--- a limit of 33 and a count above the limit, before an unknown cluster; that before a short payload; a short payload before a
--- short buffer; a short buffer; a leave with no buffer
+-- what a host with a count of 33 records replies to an unknown cluster
+abbrev pub crowd : Outcome (List ℕ)
+crowd =
+    heard
+    (answered
+    (record {
+      device = record { node = ourNode; power = ourPower; endpoints = ourDescriptors .endpoints; «endpoint_count» = 33 };
+      «ieee_addr» = ours .«ieee_addr»;
+      «nwk_addr» = ours .«nwk_addr»;
+      pools = ourPools;
+    })
+    (emptyTable 32)
+    (asked 0x0007 []))
+
+-- device tables that are not good, a limit of 33 and a count above the limit, before an unknown cluster; that before a short
+-- payload; a short payload before a short buffer; a buffer one byte short, and one that is just long enough; a leave with no
+-- buffer, and one byte short
 unfoldable pub RefusalOrder : Case
 RefusalOrder =
     record {
       says =
-          tried (emptyTable 33) 0x0007 [] 0
+          crowd
+          ∷ tried (emptyTable 33) 0x0007 [] 0
           ∷ tried (counting 1 2) 0x0007 [] 0
           ∷ tried (counting 32 32) 0x0007 [] 0
           ∷ tried (emptyTable 32) 0x0005 (0x07 ∷ 0x34 ∷ []) 0
@@ -195,6 +211,7 @@ RefusalOrder =
       expected =
           refusal 1
           ∷ refusal 1
+          ∷ refusal 1
           ∷ refusal 2
           ∷ refusal 3
           ∷ refusal 5
@@ -204,8 +221,8 @@ RefusalOrder =
           ∷ [];
     }
 
--- a bind with a buffer of one byte is refused, and then nothing is held; the buffer is as it was, and after an answer behind
--- the reply
+-- a bind with a buffer of one byte is refused: nothing is held, and the buffer is as it was; after an answer it is as it was
+-- behind the reply. A leave leaves the buffer and the table. A node request into one byte, and into four.
 unfoldable pub Left : Case
 Left =
     let short : Asked = record { cluster = 0x0021; payload = bindA; room = 1 } in
@@ -215,7 +232,9 @@ Left =
           ∷ answer (runTable ours (emptyTable 32) (short ∷ []) .count ∷ [])
           ∷ answer (bufferAfter (0xEE ∷ []) (answered ours (emptyTable 32) short))
           ∷ answer (bufferAfter (0xEE ∷ 0xEE ∷ 0xEE ∷ []) (answered ours (emptyTable 32) (asked 0x0021 bindA)))
-          ∷ answer (written (0xEE ∷ 0xEE ∷ []) (fitted 2 (nodeDescReq 7 (shortOf 0x1234))))
+          ∷ answer (bufferAfter (0xEE ∷ []) (answered ours (emptyTable 32) (asked 0x0034 (replicate 10 0x00))))
+          ∷ answer (runTable ours (emptyTable 32) (asked 0x0021 bindA ∷ asked 0x0034 (replicate 10 0x00) ∷ []) .count ∷ [])
+          ∷ answer (written (0xEE ∷ []) (fitted 1 (nodeDescReq 7 (shortOf 0x1234))))
           ∷ answer (written (0xEE ∷ 0xEE ∷ 0xEE ∷ 0xEE ∷ []) (fitted 4 (nodeDescReq 7 (shortOf 0x1234))))
           ∷ [];
       expected =
@@ -223,7 +242,9 @@ Left =
           ∷ answer (0 ∷ [])
           ∷ answer (0xEE ∷ [])
           ∷ answer (0x0A ∷ 0x00 ∷ 0xEE ∷ [])
-          ∷ answer (0xEE ∷ 0xEE ∷ [])
+          ∷ answer (0xEE ∷ [])
+          ∷ answer (1 ∷ [])
+          ∷ answer (0xEE ∷ [])
           ∷ answer (0x07 ∷ 0x34 ∷ 0x12 ∷ 0xEE ∷ [])
           ∷ [];
     }

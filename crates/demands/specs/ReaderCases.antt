@@ -2,11 +2,11 @@
 -- sentences give, as literals, on the other.
 use Prim.Native.Nat.{ℕ}
 use mathlib.Core.List.{List, [], _∷_, _++_, map}
-use lib.ListN.{length, take, drop, replicate}
+use lib.ListN.{take, drop, replicate}
 use Rattle.zigbee_types.specs.Refusals.{refusalNumber}
 use Rattle.zigbee_types.specs.declared.Refusal.the-variants.{BadTables, UnknownCluster, Malformed, TooManyClusters, ShortBuffer}
 use Rattle.zigbee_types.specs.Bytes.{bit, bitAt}
-use Rattle.zigbee_types.specs.Outcome.{Outcome, answer, refusal, mapped, written}
+use Rattle.zigbee_types.specs.Outcome.{Outcome, answer, refusal, mapped}
 use Rattle.zigbee_types.specs.Layout.{laid}
 use Rattle.zigbee_types.specs.Addresses.{groupOf}
 use Rattle.zigbee_types.specs.declared.Places.{Places}
@@ -280,7 +280,7 @@ abbrev pub available : Source → ℕ → ℕ
 available s n = bit (supports (record { «byte0» = n; «byte1» = 0 }) s)
 
 -- bitmaps of one number each, of none and of three; each bit of the available sources against each source; the current sources
--- 1, 2 and 8, each available, read
+-- 1 and 2, read, and 8, refused, each available; one byte
 unfoldable pub SourceSets : Case
 SourceSets =
     record {

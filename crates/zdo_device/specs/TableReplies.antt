@@ -3,6 +3,7 @@ use Prim.Native.Nat.{ℕ}
 use mathlib.Core.Bool.{cond}
 use mathlib.Core.List.{List, map}
 use lib.Dec.{leb}
+use lib.ListN.{length}
 use Rattle.zigbee_types.specs.Outcome.{Outcome, refusal}
 use Rattle.zigbee_types.specs.Lists.{option}
 use Rattle.zigbee_types.specs.Statuses.{NOT-ACTIVE}
@@ -16,9 +17,13 @@ use Rattle.zdo_device.specs.declared.descriptor.DeviceDescriptorConfig.{
 unfoldable pub activeRspOf : ℕ → ShortAddress → List EndpointDescriptor → Outcome (List ℕ)
 activeRspOf seq address records = listRsp seq address (map (λ e. e .endpoint) records)
 
--- `active_ep_rsp`: refusal 1 for a count above 32
+-- the active list over a run of records: refusal 1 for more than 32
+unfoldable pub activeRecords : ℕ → ShortAddress → List EndpointDescriptor → Outcome (List ℕ)
+activeRecords seq address records = cond (leb (length records) 32) (activeRspOf seq address records) (refusal 1)
+
+-- `active_ep_rsp`: refusal 1 for a count above 32 too
 unfoldable pub activeEpRsp : ℕ → ShortAddress → DeviceDescriptorConfig → Outcome (List ℕ)
-activeEpRsp seq address d = cond (leb (d .«endpoint_count») 32) (activeRspOf seq address (used d)) (refusal 1)
+activeEpRsp seq address d = cond (leb (d .«endpoint_count») 32) (activeRecords seq address (used d)) (refusal 1)
 
 -- 2.4.4.2.5: the simple descriptor of the first record with the number; NOT_ACTIVE and length 0 where there is none
 unfoldable pub simpleRspOf : ℕ → ShortAddress → Pools → DeviceDescriptorConfig → ℕ → Outcome (List ℕ)
