@@ -18,7 +18,7 @@ use Rattle.aps_binding.specs.Table.{emptyTable}
 use Rattle.aps_binding.specs.declared.binding.BindingTable.{BindingTable}
 use Rattle.zdo_requests.specs.Requests.{matchDescReqIn}
 use Rattle.zdo_device.specs.Matching.{matchingEndpoints}
-use Rattle.zdo_dispatcher.specs.Host.{Asked}
+use Rattle.zdo_dispatcher.specs.Host.{Host, Asked}
 use Rattle.zdo_dispatcher.specs.Answers.{Answer, reply, leave, answered}
 use Rattle.demands.specs.OurDevice.{ourPools, ourDescriptors, ours}
 
@@ -58,9 +58,13 @@ joined (x ∷ xs) = x ++ joined xs
 
 -- ---- asking the dispatcher
 
--- what it replies to a request, with a binding table and a room
+-- what a host replies to a request, with a binding table and a room
+abbrev pub triedOn : Host → BindingTable → ℕ → List ℕ → ℕ → Outcome (List ℕ)
+triedOn h t cluster payload room = heard (answered h t (record { cluster = cluster; payload = payload; room = room }))
+
+-- what our device replies
 abbrev pub tried : BindingTable → ℕ → List ℕ → ℕ → Outcome (List ℕ)
-tried t cluster payload room = heard (answered ours t (record { cluster = cluster; payload = payload; room = room }))
+tried = triedOn ours
 
 -- what it replies with an empty table and a buffer of 128 bytes
 abbrev pub replies : ℕ → List ℕ → Outcome (List ℕ)

@@ -13,10 +13,9 @@ use Rattle.zdo_readers.specs.Readers.{nodeDescRspIn, stackRevisionOf}
 use Rattle.zdo_readers.specs.declared.descriptor.OptionStackRevision.{OptionStackRevision}
 use Rattle.zdo_readers.specs.declared.descriptor.OptionStackRevision.the-variants.{Some, None}
 use Rattle.zdo_device.specs.TableReplies.{simpleDescRsp}
-use Rattle.zdo_device.specs.declared.descriptor.DeviceDescriptorConfig.{DeviceDescriptorConfig}
 use Rattle.zdo_dispatcher.specs.Host.{Asked}
 use Rattle.zdo_dispatcher.specs.Answers.{answered, run, runTable}
-use Rattle.demands.specs.OurDevice.{ourNode, ourPower, ourPools, ourDescriptors, ours}
+use Rattle.demands.specs.OurDevice.{ourNode, ourPower, ourPools, ourDescriptors, ours, endpointAt, deviceOf}
 use Rattle.demands.specs.Cases.{Case, asked, found, heard, statusOf, powerShown, bindA, bindB, bindC}
 
 -- K1: a node reply with room, and in a buffer of 16 bytes
@@ -72,28 +71,18 @@ K5 =
           ∷ [];
     }
 
--- our device with one endpoint, of so many inputs and outputs
-abbrev pub crowded : ℕ → ℕ → DeviceDescriptorConfig
-crowded inputs outputs =
-    record {
-      node = ourNode;
-      power = ourPower;
-      endpoints = replicate 32
-          (record { endpoint = 1; «device_version» = 0; «profile_id» = 0x0104; «device_id» = 0x0302; «input_start» = 0; «input_count» = inputs; «output_start» = 0; «output_count» = outputs });
-      «endpoint_count» = 1;
-    }
-
--- the length of its simple reply
+-- the length of the simple reply of one endpoint, of so many inputs and outputs
 abbrev pub crowdedLength : ℕ → ℕ → Outcome (List ℕ)
 crowdedLength inputs outputs =
-    mapped (λ bytes. length bytes ∷ []) (simpleDescRsp 7 (ours .«nwk_addr») (record { inputs = replicate 29 0x0006; outputs = replicate 29 0x0019 }) (crowded inputs outputs) 1)
+    mapped (λ bytes. length bytes ∷ [])
+    (simpleDescRsp 7 (ours .«nwk_addr») (record { inputs = replicate 29 0x0006; outputs = replicate 29 0x0019 }) (deviceOf (endpointAt 1 0 inputs 0 outputs ∷ []) 1) 1)
 
--- K6: 28 clusters, on one side and on both; and 29, likewise, and without room for the reply
+-- K6: 28 clusters, on one side and on both; and 29, likewise
 unfoldable pub K6 : Case
 K6 =
     record {
-      says = crowdedLength 28 0 ∷ crowdedLength 20 8 ∷ crowdedLength 29 0 ∷ crowdedLength 28 1 ∷ fitted 0 (crowdedLength 29 0) ∷ [];
-      expected = answer (69 ∷ []) ∷ answer (69 ∷ []) ∷ refusal 4 ∷ refusal 4 ∷ refusal 4 ∷ [];
+      says = crowdedLength 28 0 ∷ crowdedLength 20 8 ∷ crowdedLength 29 0 ∷ crowdedLength 28 1 ∷ [];
+      expected = answer (69 ∷ []) ∷ answer (69 ∷ []) ∷ refusal 4 ∷ refusal 4 ∷ [];
     }
 
 -- K7: input 0x0402 of profile 0x0104 is endpoint 1's

@@ -1,5 +1,5 @@
 -- Cases of device tables and of the binding table: matching, numbers that repeat, parts of pools, tables that are refused. What
--- the definitions say stands on one side, and what document 01's sentences give, as literals, on the other.
+-- the definitions say stands on one side, and literals on the other (`Case`).
 use Prim.Native.Nat.{ℕ}
 use mathlib.Core.List.{List, [], _∷_, map}
 use lib.ListN.{length, take, replicate}
@@ -14,11 +14,11 @@ use Rattle.zdo_device.specs.Matching.{matchedRecords, matchingEndpoints}
 use Rattle.zdo_device.specs.TableReplies.{activeRecords, activeEpRsp, simpleDescRsp}
 use Rattle.zdo_device.specs.declared.descriptor.DeviceDescriptorConfig.{DeviceDescriptorConfig}
 use Rattle.zdo_device.specs.declared.descriptor.Side.the-variants.{Input, Output}
-use Rattle.demands.specs.OurDevice.{ourNode, ourPower, endpoint1, endpoint2, ourPools, ourDescriptors}
+use Rattle.demands.specs.OurDevice.{endpoint1, endpoint2, ourPools, ourDescriptors, endpointAt, deviceOf}
 use Rattle.demands.specs.Cases.{Case, found, counting, joined}
 
--- a list that is shorter than the buffer: how many are written, and the buffer then. Another profile; 0xFFFF with an input that both endpoints have; an output; an output asked for as an input; the second of two
--- inputs
+-- a list that is shorter than the buffer: how many are written, and the buffer then; the buffer after a refusal. Another
+-- profile; 0xFFFF with an input that both endpoints have; an output; an output asked for as an input; the second of two inputs
 unfoldable pub Matching : Case
 Matching =
     record {
@@ -55,18 +55,9 @@ standing inputs outputs =
       «output_clusters» = record { start = outputs; count = 0 };
     }
 
--- endpoint 2, and then endpoint 1 under the same number
+-- endpoint 2, another record of that number, and endpoint 1 behind the count
 abbrev pub twice : DeviceDescriptorConfig
-twice =
-    record {
-      node = ourNode;
-      power = ourPower;
-      endpoints =
-          endpoint2
-          ∷ record { endpoint = 2; «device_version» = 0x11; «profile_id» = 0x0104; «device_id» = 0x0302; «input_start» = 0; «input_count» = 2; «output_start» = 0; «output_count» = 1 }
-          ∷ replicate 30 endpoint1;
-      «endpoint_count» = 2;
-    }
+twice = deviceOf (endpoint2 ∷ endpointAt 2 0 2 0 1 ∷ endpoint1 ∷ []) 2
 
 -- the first record answers for a number, in a simple reply and for its part of a pool; both stand in the active list, and
 -- both match; a record behind the count answers for nothing
@@ -100,14 +91,7 @@ LongList =
 
 -- one endpoint, whose input is the fourth of its pool and whose output the second
 abbrev pub apart : DeviceDescriptorConfig
-apart =
-    record {
-      node = ourNode;
-      power = ourPower;
-      endpoints = replicate 32
-          (record { endpoint = 4; «device_version» = 0; «profile_id» = 0x0104; «device_id» = 0x0302; «input_start» = 3; «input_count» = 1; «output_start» = 1; «output_count» = 1 });
-      «endpoint_count» = 1;
-    }
+apart = deviceOf (endpointAt 4 3 1 1 1 ∷ []) 1
 
 -- an endpoint's part by side, of an endpoint that we do not have, and where a pool is too short; parts that start apart
 unfoldable pub Parts : Case
@@ -126,18 +110,11 @@ Parts =
 
 -- our records, with a count
 abbrev pub ofCount : ℕ → DeviceDescriptorConfig
-ofCount n = record { node = ourNode; power = ourPower; endpoints = ourDescriptors .endpoints; «endpoint_count» = n }
+ofCount n = deviceOf (endpoint1 ∷ endpoint2 ∷ []) n
 
--- one record of endpoint 1, which starts so far into its pools and has no clusters
+-- one record, which starts so far into its pools and has no clusters
 abbrev pub startingAt : ℕ → ℕ → DeviceDescriptorConfig
-startingAt inputs outputs =
-    record {
-      node = ourNode;
-      power = ourPower;
-      endpoints = replicate 32
-          (record { endpoint = 1; «device_version» = 0; «profile_id» = 0x0104; «device_id» = 0x0302; «input_start» = inputs; «input_count» = 0; «output_start» = outputs; «output_count» = 0 });
-      «endpoint_count» = 1;
-    }
+startingAt inputs outputs = deviceOf (endpointAt 1 inputs 0 outputs 0 ∷ []) 1
 
 -- a count of 33, of active, simple, matching and an endpoint's part, and one of 3; a run of 33 records in the active list; pools
 -- of 513 clusters, of inputs and of outputs, and of 512; a record that starts at the end of its pool, and past it, of inputs and

@@ -1,5 +1,5 @@
 -- Cases of the dispatcher: each request, about us and about another device; bind and unbind; the order of refusals; what is
--- left. What the definitions say stands on one side, and what document 01's sentences give, as literals, on the other.
+-- left. What the definitions say stands on one side, and literals on the other (`Case`).
 use Prim.Native.Nat.{ℕ}
 use mathlib.Core.List.{List, [], _∷_, _++_, map}
 use lib.ListN.{length, take, drop, replicate}
@@ -14,10 +14,10 @@ use Rattle.zdo_requests.specs.Requests.{addrOfInterestIn, mgmtLeaveReqIn, nodeD
 use Rattle.zdo_requests.specs.declared.descriptor.MgmtLeaveReq.{MgmtLeaveReq}
 use Rattle.zdo_requests.specs.declared.descriptor.OptionIeeeAddress.{OptionIeeeAddress}
 use Rattle.zdo_requests.specs.declared.descriptor.OptionIeeeAddress.the-variants as optional
-use Rattle.zdo_dispatcher.specs.Host.{Asked, asking}
+use Rattle.zdo_dispatcher.specs.Host.{Host, Asked, asking}
 use Rattle.zdo_dispatcher.specs.Answers.{Told, replied, leaving, toldOf, answered, bufferAfter, run, runTable}
-use Rattle.demands.specs.OurDevice.{ourNode, ourPower, ourPools, ourDescriptors, ours}
-use Rattle.demands.specs.Cases.{Case, asked, heard, statusOf, bindHead, bindA, bindB, bindC, tried, replies, counting, joined, nodeOf}
+use Rattle.demands.specs.OurDevice.{ourPower, ourPools, ourDescriptors, ours, endpoint1, endpoint2, endpointAt, deviceOf, hostOf}
+use Rattle.demands.specs.Cases.{Case, asked, heard, statusOf, bindHead, bindA, bindB, bindC, tried, replies, counting, joined, nodeOf, triedOn}
 
 -- a NWK_addr_req for our IEEE address, of a type
 abbrev pub nwkAddr : ℕ → List ℕ
@@ -66,16 +66,12 @@ IeeeAddr =
 -- what a device of a type replies to a node request for 0x5678
 abbrev pub elsewhere : LogicalType → Outcome (List ℕ)
 elsewhere t =
-    heard
-    (answered
-    (record {
-      device = record { node = nodeOf t; power = ourPower; endpoints = ourDescriptors .endpoints; «endpoint_count» = 2 };
-      «ieee_addr» = ours .«ieee_addr»;
-      «nwk_addr» = ours .«nwk_addr»;
-      pools = ourPools;
-    })
+    triedOn
+    (hostOf (record { node = nodeOf t; power = ourPower; endpoints = ourDescriptors .endpoints; «endpoint_count» = 2 }) ourPools)
     (emptyTable 32)
-    (asked 0x0002 (0x07 ∷ 0x78 ∷ 0x56 ∷ [])))
+    0x0002
+    (0x07 ∷ 0x78 ∷ 0x56 ∷ [])
+    128
 
 -- an end device, by cluster; then a node request to each type, one of them reserved
 unfoldable pub Elsewhere : Case
@@ -177,31 +173,24 @@ Shifting =
           ∷ [];
     }
 
--- what a host with a count of 33 records replies to an unknown cluster
-abbrev pub crowd : Outcome (List ℕ)
-crowd =
-    heard
-    (answered
-    (record {
-      device = record { node = ourNode; power = ourPower; endpoints = ourDescriptors .endpoints; «endpoint_count» = 33 };
-      «ieee_addr» = ours .«ieee_addr»;
-      «nwk_addr» = ours .«nwk_addr»;
-      pools = ourPools;
-    })
-    (emptyTable 32)
-    (asked 0x0007 []))
+-- a host whose endpoint 1 has 29 inputs
+abbrev pub crowdedHost : Host
+crowdedHost = hostOf (deviceOf (endpointAt 1 0 29 0 0 ∷ []) 1) (record { inputs = replicate 29 0x0006; outputs = [] })
 
--- device tables that are not good, a limit of 33 and a count above the limit, before an unknown cluster; that before a short
--- payload; a short payload before a short buffer; a buffer one byte short, and one that is just long enough; a leave with no
--- buffer, and one byte short
+-- a count of 33 records, a limit of 33 and a count above the limit, before an unknown cluster; that before a short payload; a
+-- short payload before 29 clusters; those before a short buffer, and not about another device; a short payload before a short
+-- buffer; a buffer one byte short, and one that is just long enough; a leave with no buffer, and one byte short
 unfoldable pub RefusalOrder : Case
 RefusalOrder =
     record {
       says =
-          crowd
+          triedOn (hostOf (deviceOf (endpoint1 ∷ endpoint2 ∷ []) 33) ourPools) (emptyTable 32) 0x0007 [] 0
           ∷ tried (emptyTable 33) 0x0007 [] 0
           ∷ tried (counting 1 2) 0x0007 [] 0
           ∷ tried (counting 32 32) 0x0007 [] 0
+          ∷ triedOn crowdedHost (emptyTable 32) 0x0004 (0x07 ∷ 0x34 ∷ 0x12 ∷ []) 0
+          ∷ triedOn crowdedHost (emptyTable 32) 0x0004 (0x07 ∷ 0x34 ∷ 0x12 ∷ 0x01 ∷ []) 0
+          ∷ triedOn crowdedHost (emptyTable 32) 0x0004 (0x07 ∷ 0x78 ∷ 0x56 ∷ 0x01 ∷ []) 128
           ∷ tried (emptyTable 32) 0x0005 (0x07 ∷ 0x34 ∷ []) 0
           ∷ tried (emptyTable 32) 0x0005 (0x07 ∷ 0x34 ∷ 0x12 ∷ []) 6
           ∷ tried (emptyTable 32) 0x0005 (0x07 ∷ 0x34 ∷ 0x12 ∷ []) 7
@@ -213,6 +202,9 @@ RefusalOrder =
           ∷ refusal 1
           ∷ refusal 1
           ∷ refusal 2
+          ∷ refusal 3
+          ∷ refusal 4
+          ∷ answer (0x8004 ∷ 0x07 ∷ 0x80 ∷ 0x78 ∷ 0x56 ∷ 0x00 ∷ [])
           ∷ refusal 3
           ∷ refusal 5
           ∷ answer (0x8005 ∷ 0x07 ∷ 0x00 ∷ 0x34 ∷ 0x12 ∷ 0x02 ∷ 0x01 ∷ 0x02 ∷ [])

@@ -1,5 +1,5 @@
--- Cases of the readers, and of numbers that have names. What the definitions say stands on one side, and what document 01's
--- sentences give, as literals, on the other.
+-- Cases of the readers, and of numbers that have names. What the definitions say stands on one side, and
+-- literals on the other (`Case`); those of flags are the Rust's.
 use Prim.Native.Nat.{ℕ}
 use mathlib.Core.List.{List, [], _∷_, _++_, map}
 use lib.ListN.{take, drop, replicate}
