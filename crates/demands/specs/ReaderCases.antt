@@ -132,8 +132,8 @@ simpleNumbers (simple.Some d) =
 abbrev pub simpleBytes : List ℕ
 simpleBytes = 0x01 ∷ 0x04 ∷ 0x01 ∷ 0x02 ∷ 0x03 ∷ 0x11 ∷ 0x01 ∷ 0x02 ∷ 0x04 ∷ 0x00 ∷ []
 
--- alone; with an output of two bytes and of one; in a reply of another status, with a byte to spare; with a length one short; with a length one past the reply; with
--- length 0
+-- alone; with an output of two bytes and of one; in a reply of another status, with a byte to spare; with a length one short;
+-- with a length one past the reply; with length 0
 unfoldable pub ReadSimple : Case
 ReadSimple =
     record {
