@@ -33,10 +33,11 @@ pub fn u64_of(word: &str) -> Option<u64> {
     number(word, 16)
 }
 
-/// A place or a count: decimal, without zeros in front.
+/// A place or a count: decimal, at most nine digits, and no zero in front but `0` itself.
 pub fn decimal(word: &str) -> Option<usize> {
+    let digits = word.len() <= 9 && word.bytes().all(|c| c.is_ascii_digit());
     let plain = word == "0" || !word.starts_with('0');
-    if plain && word.bytes().all(|c| c.is_ascii_digit()) {
+    if digits && plain {
         word.parse().ok()
     } else {
         None

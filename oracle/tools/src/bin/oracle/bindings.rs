@@ -91,7 +91,7 @@ fn step_of(word: &str) -> Option<Step> {
     }
 }
 
-/// What the steps come to in a table of a limit of 0 to 32, which is the Rust's N.
+/// What the steps come to in a table of this limit, which is the Rust's N: 0 to 32, and 33 to show that the Rust has more.
 fn linked(limit: usize, steps: &[Step]) -> Option<String> {
     macro_rules! by_limit {
         ($($n:literal)*) => {
@@ -101,7 +101,7 @@ fn linked(limit: usize, steps: &[Step]) -> Option<String> {
             }
         };
     }
-    by_limit!(0 1 2 3 4 5 6 7 8 9 10 11 12 13 14 15 16 17 18 19 20 21 22 23 24 25 26 27 28 29 30 31 32)
+    by_limit!(0 1 2 3 4 5 6 7 8 9 10 11 12 13 14 15 16 17 18 19 20 21 22 23 24 25 26 27 28 29 30 31 32 33)
 }
 
 fn run<const N: usize>(steps: &[Step]) -> String {

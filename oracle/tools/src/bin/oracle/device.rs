@@ -45,14 +45,14 @@ pub fn answer(name: &str, words: &[&str]) -> Option<String> {
     }
 }
 
-/// The answer of a device with these tables: none if they break document 01's sizes, or a record runs past its pool.
+/// The answer of a device with these tables: none if a record runs past its pool.
 fn over(
     [inputs, outputs, records]: [&str; 3],
     ask: impl FnOnce(&DeviceDescriptorConfig<'_>) -> String,
 ) -> Option<String> {
-    let inputs = clusters(inputs).filter(|pool| pool.len() <= 512)?;
-    let outputs = clusters(outputs).filter(|pool| pool.len() <= 512)?;
-    let records = pieces(records, 28).filter(|records| records.len() <= 32)?;
+    let inputs = clusters(inputs)?;
+    let outputs = clusters(outputs)?;
+    let records = pieces(records, 28)?;
     let endpoints: Vec<EndpointDescriptor<'_>> = records
         .into_iter()
         .map(|r| record(r, &inputs, &outputs))

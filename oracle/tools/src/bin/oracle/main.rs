@@ -13,15 +13,22 @@ use tools::words::show_bytes;
 
 fn main() -> io::Result<()> {
     let mut out = BufWriter::new(io::stdout().lock());
-    for line in io::stdin().lock().lines() {
-        let answer = answer(&line?).unwrap_or_else(|| "?".to_string());
-        writeln!(out, "{answer}")?;
+    for line in io::stdin().lock().split(b'\n') {
+        let line = line?;
+        let answer = str::from_utf8(&line).ok().and_then(answer);
+        writeln!(out, "{}", answer.as_deref().unwrap_or("?"))?;
     }
     out.flush()
 }
 
+/// The most characters of a line.
+const LONGEST: usize = 16_384;
+
 /// The answer to a question, or none where it is no question.
 fn answer(line: &str) -> Option<String> {
+    if line.len() > LONGEST {
+        return None;
+    }
     let mut words = line.split(' ');
     let name = words.next()?;
     let words: Vec<&str> = words.collect();

@@ -1,0 +1,204 @@
+// The words of a question, and what they say. Words have one space between them: a second space makes an empty word, which is
+// of no kind.
+//
+// The kinds of arguments (oracle/README.md, "Lines"), each a letter:
+//     1, 2, 8   a number of so many bytes, two digits for each
+//     b         bytes
+//     d         a place or a count in decimal, of at most nine digits
+// What reads a word takes any word: one of another kind gives some number, or some bytes.
+ghost use Prim.Native.Nat.{_≤_, _<_};
+ghost use lib.ListN.{length};
+
+// Whether a line asks a question: its name, an argument of each of its kinds, and nothing else. The question is written as its
+// name and the letters of its kinds, each after a space: `write_u16 d 2 b`.
+pub fn asks(line: &[u8], question: &[u8]) -> bool {
+    let mut i = word_end(question, 0);
+    if !is_named(line, front(question, i)) {
+        return false;
+    }
+    let mut end = i;
+    while i < question.len() {
+        let letter = i + 1;
+        if question.len() <= letter {
+            return false;
+        }
+        if line.len() <= end {
+            return false;
+        }
+        let start = end + 1;
+        end = word_end(line, start);
+        if !is_of(&line[start..end], question[letter]) {
+            return false;
+        }
+        i = letter + 1;
+    }
+    end == line.len()
+}
+
+// Whether the first word of a line is this name.
+fn is_named(line: &[u8], name: &[u8]) -> bool {
+    let end = name.len();
+    if line.len() <= end {
+        return check::same(line, name);
+    }
+    if line[end] != b' ' {
+        return false;
+    }
+    check::same(front(line, end), name)
+}
+
+// Whether a word is an argument of this kind.
+fn is_of(word: &[u8], kind: u8) -> bool {
+    match kind {
+        b'1' => is_hex(word, 2),
+        b'2' => is_hex(word, 4),
+        b'8' => is_hex(word, 16),
+        b'b' => is_bytes(word),
+        b'd' => is_decimal(word),
+        _ => false,
+    }
+}
+
+// Whether a word is so many hexadecimal digits.
+fn is_hex(word: &[u8], digits: usize) -> bool {
+    if word.len() != digits {
+        return false;
+    }
+    has_digits(word, 16)
+}
+
+// Whether a word says bytes: two digits for each, or `-` for none.
+fn is_bytes(word: &[u8]) -> bool {
+    if check::same(word, b"-") {
+        return true;
+    }
+    if word.len() == 0 {
+        return false;
+    }
+    if word.len() % 2 != 0 {
+        return false;
+    }
+    has_digits(word, 16)
+}
+
+// Whether a word is a number in decimal, of at most nine digits, and without a zero in front that it does not need.
+fn is_decimal(word: &[u8]) -> bool {
+    if word.len() == 0 {
+        return false;
+    }
+    if word.len() > 9 {
+        return false;
+    }
+    if word[0] == b'0' {
+        return word.len() == 1;
+    }
+    has_digits(word, 10)
+}
+
+// Whether each character of a word is a digit of this base.
+fn has_digits(word: &[u8], base: u8) -> bool {
+    let mut i: usize = 0;
+    while i < word.len() {
+        if base <= digit(word[i]) {
+            return false;
+        }
+        i += 1;
+    }
+    true
+}
+
+// What a character counts as a digit: 16 where it is none.
+fn digit(character: u8) -> u8 {
+    match character {
+        b'0'..=b'9' => character - b'0',
+        b'A'..=b'F' => character - b'A' + 10,
+        _ => 16,
+    }
+}
+
+// The number in a word of a line, of at most eight bytes.
+pub fn hex_in(line: &[u8], word: usize) -> u64 {
+    value(word_of(line, word), 16)
+}
+
+// The place or the count in a word of a line. A number of nine digits is its own remainder.
+pub fn decimal_in(line: &[u8], word: usize) -> usize
+    ensures { λ r. ⌜ r < 1000000000 ⌝ }
+{
+    (value(word_of(line, word), 10) % 1000000000) as usize
+}
+
+// Puts the bytes in a word of a line at the front of a slice, as many as it has room for, and answers how many they are.
+pub fn bytes_in(line: &[u8], word: usize, space: &mut [u8]) -> usize
+    ensures { λ r. ⌜ r ≤ length (now (space .exit)) ⌝ }
+{
+    let digits = word_of(line, word);
+    let mut i: usize = 0;
+    while i < space.len() {
+        if digits.len() / 2 <= i {
+            return i;
+        }
+        space[i] = (digit(digits[2 * i]) << 4) | digit(digits[2 * i + 1]);
+        i += 1;
+    }
+    i
+}
+
+// The number that the digits of a word say in base 10 or 16.
+fn value(word: &[u8], base: u8) -> u64 {
+    let mut sum: u64 = 0;
+    let mut i: usize = 0;
+    while i < word.len() {
+        sum = with_digit(sum, base, digit(word[i]));
+        i += 1;
+    }
+    sum
+}
+
+// The number that has one digit more, in base 10 or 16. What 64 bits have no room for is left out.
+fn with_digit(number: u64, base: u8, last: u8) -> u64 {
+    if base == 10 {
+        return number % 1000000000000000000 * 10 + (last as u64);
+    }
+    (number << 4) | (last as u64)
+}
+
+// The word of a line that stands behind so many spaces, or an empty one where there is none.
+fn word_of(line: &[u8], spaces: usize) -> &[u8] {
+    let start = word_start(line, spaces);
+    let end = word_end(line, start);
+    &line[start..end]
+}
+
+// The place behind so many spaces of a line, or the end of the line where there are fewer.
+fn word_start(line: &[u8], spaces: usize) -> usize
+    ensures { λ r. ⌜ r ≤ length (now (line .entry)) ⌝ }
+{
+    let mut start: usize = 0;
+    let mut i: usize = 0;
+    while i < spaces {
+        let end = word_end(line, start);
+        if line.len() <= end {
+            return end;
+        }
+        start = end + 1;
+        i += 1;
+    }
+    start
+}
+
+// The place of the first space from a place on, or the end of the line where there is none.
+fn word_end(line: &[u8], start: usize) -> usize
+    requires { ⌜ start ≤ length (now line) ⌝ }
+    ensures { λ r. ⌜ (start ≤ r) × (r ≤ length (now (line .entry))) ⌝ }
+{
+    bytes::scan::find(line, start, line.len(), b' ')
+}
+
+// The first bytes of a slice, so many of them, or all where it has fewer.
+pub fn front(bytes: &[u8], count: usize) -> &[u8] {
+    if bytes.len() <= count {
+        return bytes;
+    }
+    &bytes[0..count]
+}

@@ -1,0 +1,164 @@
+//! The kinds of answers, by which `compare` counts them.
+
+use crate::words::{decimal, pieces};
+
+/// The kind of what is no answer: `?`, nothing, or one that the question cannot have.
+pub const NO_ANSWER: &str = "?";
+
+/// The kind of an answer.
+pub fn kind(question: &str, answer: &str) -> &'static str {
+    let asked: Vec<&str> = question.split(' ').collect();
+    let answered: Vec<&str> = answer.split(' ').collect();
+    let kind = match answered[0] {
+        "" | NO_ANSWER => None,
+        "R" => Some("refused"),
+        _ => told_apart(&asked, &answered),
+    };
+    kind.filter(|kind| reachable(asked[0]).contains(kind))
+        .unwrap_or(NO_ANSWER)
+}
+
+/// All kinds that the answers to questions about a function can have.
+pub fn reachable(name: &str) -> &'static [&'static str] {
+    match name {
+        "parse_bind_req" => &["group", "device", "refused"],
+        "parse_mgmt_leave_req" => &["address", "no address", "refused"],
+        "parse_node_desc_rsp" => &["mask", "no mask", "refused"],
+        "stack_revision" => &["mask", "no mask"],
+        "addr_rsp" => &["single", "extended", "refused"],
+        "match_desc_rsp" => &["up to 255", "above 255", "refused"],
+        "simple_desc_rsp" => &["described", "not active", "refused"],
+        "matching_endpoints" => &["all", "full", "none", "no room", "refused"],
+        "endpoint" | "supports_endpoint" => &["known", "unknown"],
+        "Binding::eq" | "Binding::matches" | "NodePowerDescriptor::supports" => &["yes", "no"],
+        "NodeDescriptor::logical_type" | "NodePowerDescriptor::accessors" => &["named", "reserved"],
+        "links" => &[
+            "no step",
+            "bind 00 added",
+            "bind 00 held",
+            "bind 00 held, full",
+            "bind 8C",
+            "unbind 00",
+            "unbind 88",
+        ],
+        _ if never_refuses(name) => &["answered"],
+        _ => &["answered", "refused"],
+    }
+}
+
+/// Is it a function whose answers are all of one kind?
+fn never_refuses(name: &str) -> bool {
+    let method = name.rsplit("::").next().unwrap_or(name);
+    match name {
+        "NodeDescriptor::accessors" | "ServerMask::get_stack_compliance_revision" => true,
+        "constants" | "leave_status" => true,
+        _ => matches!(
+            method,
+            "default" | "is_set" | "bits" | "bitmap" | "code" | "group" | "device"
+        ),
+    }
+}
+
+/// The kind of an answer that is no refusal.
+fn told_apart(asked: &[&str], answered: &[&str]) -> Option<&'static str> {
+    let flag = |set, unset| match answered[0] {
+        "1" => Some(set),
+        "0" => Some(unset),
+        _ => None,
+    };
+    let given = |place: usize, some, none| {
+        answered
+            .get(place)
+            .map(|&word| if word == "-" { none } else { some })
+    };
+    match asked[0] {
+        "parse_bind_req" => destination(answered.get(2)?),
+        "parse_mgmt_leave_req" => given(1, "address", "no address"),
+        "parse_node_desc_rsp" => given(3, "mask", "no mask"),
+        "stack_revision" => given(0, "mask", "no mask"),
+        "addr_rsp" => Some(if *asked.get(4)? == "1" {
+            "extended"
+        } else {
+            "single"
+        }),
+        "match_desc_rsp" => Some(if pieces(asked.get(3)?, 2)?.len() > 255 {
+            "above 255"
+        } else {
+            "up to 255"
+        }),
+        "simple_desc_rsp" => simple(answered.get(1)?),
+        "matching_endpoints" => matched(answered),
+        "endpoint" => given(0, "known", "unknown"),
+        "supports_endpoint" => flag("known", "unknown"),
+        "Binding::eq" | "Binding::matches" | "NodePowerDescriptor::supports" => flag("yes", "no"),
+        "NodeDescriptor::logical_type" | "NodePowerDescriptor::accessors" => named(answered[0]),
+        "links" => last_step(asked, answered),
+        _ => Some("answered"),
+    }
+}
+
+/// Where an entry sends.
+fn destination(entry: &str) -> Option<&'static str> {
+    match entry.get(..2)? {
+        "01" => Some("group"),
+        "03" => Some("device"),
+        _ => None,
+    }
+}
+
+/// By the status of a simple descriptor's reply.
+fn simple(reply: &str) -> Option<&'static str> {
+    match reply.get(2..4)? {
+        "00" => Some("described"),
+        "83" => Some("not active"),
+        _ => None,
+    }
+}
+
+/// By how many endpoints were written, and for how many there was room.
+fn matched(answered: &[&str]) -> Option<&'static str> {
+    let [count, buffer] = answered else {
+        return None;
+    };
+    let count = decimal(count)?;
+    Some(match pieces(buffer, 2)?.len() {
+        0 => "no room",
+        _ if count == 0 => "none",
+        room if count == room => "full",
+        _ => "all",
+    })
+}
+
+/// Have all values a name, or is one of them `Reserved`?
+fn named(values: &str) -> Option<&'static str> {
+    let reserved = pieces(values, 4)?
+        .iter()
+        .any(|value| value.starts_with("01"));
+    Some(if reserved { "reserved" } else { "named" })
+}
+
+/// By the last step and its status. A bind that succeeded found its entry held if the step before
+/// about the same entry was a bind that succeeded too; and the table is full if it holds as many as
+/// its limit.
+fn last_step(asked: &[&str], answered: &[&str]) -> Option<&'static str> {
+    let ([_, limit, steps @ ..], [statuses, held, ..]) = (asked, answered) else {
+        return None;
+    };
+    let Some(last) = steps.last() else {
+        return Some("no step");
+    };
+    let statuses = pieces(statuses, 2)?;
+    let mut before = steps.iter().zip(&statuses).rev();
+    let status = *before.next()?.1;
+    let same = before.find(|(step, _)| step.get(1..) == last.get(1..));
+    let was_held = same.is_some_and(|(step, status)| step.starts_with('b') && *status == "00");
+    match (last.get(..1)?, status) {
+        ("b", "00") if was_held && held == limit => Some("bind 00 held, full"),
+        ("b", "00") if was_held => Some("bind 00 held"),
+        ("b", "00") => Some("bind 00 added"),
+        ("b", "8C") => Some("bind 8C"),
+        ("u", "00") => Some("unbind 00"),
+        ("u", "88") => Some("unbind 88"),
+        _ => None,
+    }
+}
