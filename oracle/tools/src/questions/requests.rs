@@ -173,9 +173,12 @@ fn list(dice: &mut Dice, piece: usize) -> Vec<u8> {
     fields(dice, &vec![piece; length])
 }
 
-/// A power descriptor with a named source, which is mostly among the available.
+/// A power descriptor. Mostly its source has a name, and is among the available.
 fn power(dice: &mut Dice) -> Vec<u8> {
-    let source = dice.pick(SOURCES);
+    let source = match dice.below(4) {
+        0 => dice.below(16) as u8,
+        _ => dice.pick(SOURCES),
+    };
     let available = if dice.one_in(4) { 0 } else { source };
     let [low, high] = [(); 2].map(|()| dice.any() as u8);
     vec![low | available << 4, high & 0xF0 | source]
