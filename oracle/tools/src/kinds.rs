@@ -11,6 +11,7 @@ pub fn kind(question: &str, answer: &str) -> &'static str {
     let answered: Vec<&str> = answer.split(' ').collect();
     let kind = match answered[0] {
         "" | NO_ANSWER => None,
+        "R" if is_of_other_mode(&asked) => Some("refused, mode"),
         "R" => Some("refused"),
         _ => told_apart(&asked, &answered),
     };
@@ -21,7 +22,7 @@ pub fn kind(question: &str, answer: &str) -> &'static str {
 /// All kinds that the answers to questions about a function can have.
 pub fn reachable(name: &str) -> &'static [&'static str] {
     match name {
-        "parse_bind_req" => &["group", "device", "refused"],
+        "parse_bind_req" => &["group", "device", "refused, mode", "refused"],
         "parse_mgmt_leave_req" => &["address", "no address", "refused"],
         "parse_node_desc_rsp" => &["mask", "no mask", "refused"],
         "stack_revision" => &["mask", "no mask"],
@@ -39,6 +40,7 @@ pub fn reachable(name: &str) -> &'static [&'static str] {
             "bind 00 held, full",
             "bind 8C",
             "unbind 00",
+            "unbind 00 of two",
             "unbind 88",
         ],
         _ if never_refuses(name) => &["answered"],
@@ -97,6 +99,12 @@ fn told_apart(asked: &[&str], answered: &[&str]) -> Option<&'static str> {
     }
 }
 
+/// Is it a bind request of another mode than 1 or 3? The mode is byte 12.
+fn is_of_other_mode(asked: &[&str]) -> bool {
+    let mode = asked.get(1).and_then(|payload| payload.get(24..26));
+    asked[0] == "parse_bind_req" && mode.is_some_and(|mode| mode != "01" && mode != "03")
+}
+
 /// Where an entry sends.
 fn destination(entry: &str) -> Option<&'static str> {
     match entry.get(..2)? {
@@ -137,28 +145,41 @@ fn named(values: &str) -> Option<&'static str> {
     Some(if reserved { "reserved" } else { "named" })
 }
 
-/// By the last step and its status. A bind that succeeded found its entry held if the step before
-/// about the same entry was a bind that succeeded too; and the table is full if it holds as many as
-/// its limit.
+/// By the last step and its status, and by how many of its entry were held before.
 fn last_step(asked: &[&str], answered: &[&str]) -> Option<&'static str> {
-    let ([_, limit, steps @ ..], [statuses, held, ..]) = (asked, answered) else {
+    let ([_, limit, words @ ..], [statuses, count, ..]) = (asked, answered) else {
         return None;
     };
-    let Some(last) = steps.last() else {
+    let begin = words
+        .iter()
+        .take_while(|word| word.starts_with('h'))
+        .count();
+    let (held, steps) = words.split_at(begin);
+    let statuses = pieces(statuses, 2)?;
+    let (Some((last, before)), Some(status)) = (steps.split_last(), statuses.last()) else {
         return Some("no step");
     };
-    let statuses = pieces(statuses, 2)?;
-    let mut before = steps.iter().zip(&statuses).rev();
-    let status = *before.next()?.1;
-    let same = before.find(|(step, _)| step.get(1..) == last.get(1..));
-    let was_held = same.is_some_and(|(step, status)| step.starts_with('b') && *status == "00");
-    match (last.get(..1)?, status) {
-        ("b", "00") if was_held && held == limit => Some("bind 00 held, full"),
-        ("b", "00") if was_held => Some("bind 00 held"),
-        ("b", "00") => Some("bind 00 added"),
-        ("b", "8C") => Some("bind 8C"),
-        ("u", "00") => Some("unbind 00"),
-        ("u", "88") => Some("unbind 88"),
+    let held = held_then(held, before, &statuses, last.get(1..)?);
+    match (last.get(..1)?, *status, held) {
+        ("b", "00", 0) => Some("bind 00 added"),
+        ("b", "00", _) if count == limit => Some("bind 00 held, full"),
+        ("b", "00", _) => Some("bind 00 held"),
+        ("b", "8C", _) => Some("bind 8C"),
+        ("u", "00", 0 | 1) => Some("unbind 00"),
+        ("u", "00", _) => Some("unbind 00 of two"),
+        ("u", "88", _) => Some("unbind 88"),
         _ => None,
     }
+}
+
+/// How many of an entry a table holds after these steps.
+fn held_then(held: &[&str], steps: &[&str], statuses: &[&str], entry: &str) -> usize {
+    let own = |word: &str| word.get(1..) == Some(entry);
+    let begin = held.iter().filter(|word| own(word)).count();
+    let done = steps.iter().zip(statuses);
+    let done = done.filter(|(step, status)| own(step) && **status == "00");
+    done.fold(begin, |held, (step, _)| match step.starts_with('b') {
+        true => held.max(1),
+        false => held.saturating_sub(1),
+    })
 }

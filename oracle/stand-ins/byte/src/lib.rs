@@ -1,4 +1,4 @@
-//! Stand-in for the crate `byte`: what files 000 to 004 call of it, and no more.
+//! Stand-in for the crate `byte`: what files 000 to 004 call of it.
 //!
 //! It decides the bytes of a number, and that a read or a write past the end is refused and moves nothing.
 

@@ -1,4 +1,4 @@
-//! Stand-in for the crate `zigbee_types`: what files 000 and 004 use of it, and no more.
+//! Stand-in for the crate `zigbee_types`: what files 000 and 004 use of it, and what the oracle needs to make a table.
 
 use std::ops::Deref;
 
@@ -8,11 +8,10 @@ pub struct IeeeAddress(pub u64);
 
 /// A list of at most N: `push` appends, or hands the value back where there are N already; `remove` closes the gap and
 /// keeps the order.
-#[derive(Debug, Clone)]
 pub struct StorageVec<T, const N: usize>(Vec<T>);
 
 impl<T, const N: usize> StorageVec<T, N> {
-    pub fn new() -> Self {
+    pub fn empty() -> Self {
         Self(Vec::new())
     }
 
@@ -26,12 +25,6 @@ impl<T, const N: usize> StorageVec<T, N> {
 
     pub fn remove(&mut self, index: usize) -> T {
         self.0.remove(index)
-    }
-}
-
-impl<T, const N: usize> Default for StorageVec<T, N> {
-    fn default() -> Self {
-        Self::new()
     }
 }
 

@@ -4,7 +4,7 @@
 //! Prints how many answers of each function and kind there are and how many differ. Fails if any
 //! differ, and if the files or the kinds of answers are not whole.
 
-use std::collections::HashMap;
+use std::collections::{HashMap, HashSet};
 use std::process::ExitCode;
 
 use tools::functions::{Decides, Function, functions};
@@ -119,21 +119,24 @@ fn exchanges<'a>(lines: &[Vec<&'a str>; 3], functions: &[Function]) -> Vec<Excha
     (0..longest).map(exchange).collect()
 }
 
-/// How many questions, and how many differences.
-#[derive(Clone, Copy, Default)]
-struct Count {
+/// The questions of one function and kind of answer, each once; how often one was asked; and how
+/// many answers differ.
+#[derive(Default)]
+struct Count<'a> {
+    different: HashSet<&'a str>,
     questions: usize,
     differences: usize,
 }
 
 /// The counts of each function and kind of answer.
-type Counts<'a> = HashMap<(&'a str, &'static str), Count>;
+type Counts<'a> = HashMap<(&'a str, &'static str), Count<'a>>;
 
 /// Counts the exchanges.
 fn counts<'a>(exchanges: &[Exchange<'a>]) -> Counts<'a> {
     let mut counts = Counts::new();
     for exchange in exchanges {
         let count = counts.entry((exchange.name, exchange.kind)).or_default();
+        count.different.insert(exchange.question);
         count.questions += 1;
         count.differences += usize::from(exchange.differs());
     }
@@ -143,50 +146,53 @@ fn counts<'a>(exchanges: &[Exchange<'a>]) -> Counts<'a> {
 /// Prints a row for each function and kind that was counted, in three parts with their sums.
 fn print_table(functions: &[Function], counts: &Counts) {
     for (part, title) in PARTS.iter().enumerate() {
-        let mut sum = Count::default();
+        let mut sums = [0; 3];
         println!("{title}");
-        print_row("function", "answer", "questions", "differences");
-        for function in functions
-            .iter()
-            .filter(|function| part_of(function) == part)
-        {
-            for kind in reachable(function.name).iter().chain([&NO_ANSWER]) {
+        print_row(
+            "function",
+            "answer",
+            ["questions", "different", "differences"],
+        );
+        for function in functions {
+            let kinds = reachable(function.name).iter().chain([&NO_ANSWER]);
+            for kind in kinds.filter(|kind| part_of(function, kind) == part) {
                 let Some(count) = counts.get(&(function.name, *kind)) else {
                     continue;
                 };
-                sum.questions += count.questions;
-                sum.differences += count.differences;
-                print_row(
-                    &title_of(function),
-                    kind,
-                    count.questions,
-                    count.differences,
-                );
+                let numbers = [count.questions, count.different.len(), count.differences];
+                sums = [0, 1, 2].map(|n| sums[n] + numbers[n]);
+                print_row(&title_of(function, part), kind, numbers);
             }
         }
-        print_row("all of these", "", sum.questions, sum.differences);
+        print_row("all of these", "", sums);
         println!();
     }
 }
 
-/// Prints four columns.
-fn print_row<T: std::fmt::Display>(function: &str, kind: &str, questions: T, differences: T) {
-    println!("  {function:<44}{kind:<20}{questions:>10}{differences:>13}");
+/// Prints five columns.
+fn print_row<T: std::fmt::Display>(
+    function: &str,
+    kind: &str,
+    [questions, different, differences]: [T; 3],
+) {
+    println!("  {function:<44}{kind:<20}{questions:>10}{different:>10}{differences:>13}");
 }
 
-/// The part of the table where a function stands.
-fn part_of(function: &Function) -> usize {
+/// The part of the table where answers of a kind stand. Where the Rust goes through `byte`, the
+/// stand-in may have decided to refuse.
+fn part_of(function: &Function, kind: &str) -> usize {
     match function.decides {
         Decides::Rust => 0,
-        Decides::Byte => 1,
-        Decides::StandIn(_) => 2,
+        Decides::Byte if kind != "refused" => 1,
+        _ => 2,
     }
 }
 
-/// A function's name, and the stand-in that decides its answers.
-fn title_of(function: &Function) -> String {
+/// A function's name, and in the last part the stand-in that decides.
+fn title_of(function: &Function, part: usize) -> String {
     match function.decides {
         Decides::StandIn(stand_in) => format!("{} ({stand_in})", function.name),
+        _ if part == 2 => format!("{} (byte)", function.name),
         _ => function.name.to_string(),
     }
 }

@@ -139,19 +139,26 @@ fn table(limit: usize, count: usize, held: &[&str]) -> Option<String> {
     Some(format!("(table {limit} {count} {})", terms::list(held)))
 }
 
-/// From the empty table on, each step with its status and the table after it; the last table is the answer's.
+/// The table to begin with: the empty one, or one that holds these entries.
+fn begin(limit: usize, held: &[&str]) -> Option<String> {
+    match held {
+        [] => Some(format!("(emptyTable {limit})")),
+        _ => table(limit, held.len(), held),
+    }
+}
+
+/// Each step with its status and the table after it; the last table is the answer's.
 fn links(mut question: Words, answer: &str) -> Option<Vec<Part>> {
     let limit = words::decimal(question.word()?)?;
-    let steps: Vec<(bool, &str)> = question
-        .rest()
-        .into_iter()
-        .map(step)
-        .collect::<Option<_>>()?;
+    let mut rest = question.rest();
+    let first = rest.iter().take_while(|word| word.starts_with('h')).count();
+    let mut held: Vec<&str> = rest.drain(..first).map(|word| &word[1..]).collect();
+    let steps: Vec<(bool, &str)> = rest.into_iter().map(step).collect::<Option<_>>()?;
     let mut answer = Words::of(answer);
     let statuses = words::pieces(answer.word()?, 2)?;
     let count = words::decimal(answer.word()?)?;
     let last = table(limit, count, &answer.rest())?;
-    let mut before = format!("(emptyTable {limit})");
+    let mut before = begin(limit, &held)?;
     if statuses.len() != steps.len() {
         return None;
     }
@@ -159,7 +166,6 @@ fn links(mut question: Words, answer: &str) -> Option<Vec<Part>> {
         return Some(vec![part(before, last)]);
     }
     let mut parts = Vec::new();
-    let mut held = Vec::new();
     for (i, (step, status)) in steps.iter().zip(statuses).enumerate() {
         held = after(limit, &held, *step);
         let next = match i + 1 == steps.len() {

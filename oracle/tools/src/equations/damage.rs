@@ -3,8 +3,8 @@
 use super::samples::{Sample, Skipped, one_of_each_kind};
 use crate::functions::functions;
 
-/// Wrong answers to questions of each function: of one answer of each kind, each digit changed, one at a time; an answer of
-/// each other kind in its place; and a refusal. Counted as skipped are digits in whose place no other makes an answer.
+/// Wrong answers to questions of each function: of one answer of each kind, each digit changed, one at a time, and an answer
+/// of each other kind in its place. Counted as skipped are digits in whose place no other makes an answer.
 pub fn damaged(samples: &[Sample]) -> (Vec<Sample>, Skipped) {
     let mut wrong = Vec::new();
     let mut skipped = Skipped::new();

@@ -118,19 +118,38 @@ fn different(dice: &mut Dice, count: usize) -> Vec<Entry> {
 /// A step: does it bind, and what.
 type Step = (bool, Entry);
 
-/// A limit and steps. Early ones go through all sequences of up to four steps over three entries,
-/// with limits of 0 to 3.
+/// A limit, the entries held to begin with, and steps.
+struct History {
+    limit: usize,
+    held: Vec<Entry>,
+    steps: Vec<Step>,
+}
+
+/// A history. At one question of three, early ones go through all sequences of up to four steps
+/// over three entries, with limits of 0 to 3; at another, through all limits with tables that are
+/// full, or nearly, or hold an entry twice.
 fn links(ask: &mut Questions) -> String {
     let early = ask.early(4 * (1 + 6 + 36 + 216 + 1296));
-    let (limit, steps) = match early {
-        Some(n) => (n % 4, short(&mut ask.dice, n / 4)),
-        None => long(&mut ask.dice),
+    let filled = ask.walked_at(1, 33 * 4);
+    let dice = &mut ask.dice;
+    let history = match (early, filled) {
+        (Some(n), _) => History {
+            limit: n % 4,
+            held: Vec::new(),
+            steps: short(dice, n / 4),
+        },
+        (_, Some(n)) => full(dice, n % 33, n / 33),
+        _ => long(dice),
     };
-    let steps = steps.iter().map(|(binds, entry)| {
-        let letter = if *binds { 'b' } else { 'u' };
-        format!(" {letter}{}", entry.show())
-    });
-    format!("{limit}{}", steps.collect::<String>())
+    let held = history.held.iter().map(|entry| ('h', entry));
+    let steps = history
+        .steps
+        .iter()
+        .map(|(binds, entry)| (if *binds { 'b' } else { 'u' }, entry));
+    let words = held
+        .chain(steps)
+        .map(|(letter, entry)| format!(" {letter}{}", entry.show()));
+    format!("{}{}", history.limit, words.collect::<String>())
 }
 
 /// The sequence at this place among all sequences over three entries, the shorter ones first.
@@ -145,9 +164,33 @@ fn short(dice: &mut Dice, mut place: usize) -> Vec<Step> {
     steps
 }
 
+/// A table of this limit, of one of four kinds: full, twice; with one place left; with entries that
+/// are held more than once. Then a few steps about entries that are held, mostly, or are not.
+fn full(dice: &mut Dice, limit: usize, kind: usize) -> History {
+    let entries = different(dice, limit + 2);
+    let few = 1 + dice.below(3);
+    let mut held = match kind {
+        0 | 1 => entries[..limit].to_vec(),
+        2 => entries[..limit.saturating_sub(1)].to_vec(),
+        _ => (0..limit - dice.below(limit / 2 + 1))
+            .map(|_| dice.pick(&entries[..few.min(limit)]))
+            .collect(),
+    };
+    let mut steps: Vec<Step> = Vec::new();
+    if kind < 3 && dice.one_in(2) {
+        steps = held.drain(..).map(|entry| (true, entry)).collect();
+    }
+    let about = if kind < 3 { limit + 2 } else { few + 1 };
+    for _ in 0..1 + dice.below(4) {
+        let place = dice.place(about.min(limit + 2));
+        steps.push((dice.one_in(2), entries[place]));
+    }
+    History { limit, held, steps }
+}
+
 /// A limit, and up to 100 steps over a few entries. Half of the time the table is filled first: all
 /// but full, full, or more than that.
-fn long(dice: &mut Dice) -> (usize, Vec<Step>) {
+fn long(dice: &mut Dice) -> History {
     let limit = match dice.below(8) {
         0 => 32,
         1 => dice.below(33),
@@ -166,5 +209,9 @@ fn long(dice: &mut Dice) -> (usize, Vec<Step>) {
     for _ in 0..dice.below(most + 1) {
         steps.push((dice.below(5) < 3, dice.pick(&entries)));
     }
-    (limit, steps)
+    History {
+        limit,
+        held: Vec::new(),
+        steps,
+    }
 }

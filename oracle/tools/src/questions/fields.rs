@@ -32,7 +32,7 @@ fn bytes_and_place(ask: &mut Questions) -> (String, usize) {
     let length = early.map_or_else(|| dice.below(21), |n| n % 21);
     let place = match early {
         Some(n) => n / 21,
-        None if dice.one_in(16) => dice.pick(&[255, 256, 65_535, 65_536, 999_999]),
+        None if dice.one_in(16) => dice.pick(&[255, 256, 65_535, 65_536, 999_999_999]),
         None => dice.below(length + 4),
     };
     (show_bytes(&dice.bytes(length)), place)

@@ -58,7 +58,7 @@ fn error(dice: &mut Dice, sizes: &[usize], length: usize) -> String {
 fn matched(dice: &mut Dice) -> String {
     let count = match dice.below(8) {
         0 => 252 + dice.below(8),
-        1 => 256 + dice.below(100),
+        1 => 256 + dice.length(100, 500),
         _ => dice.length(6, 300),
     };
     let endpoints = show_bytes(&dice.bytes(count));

@@ -90,10 +90,15 @@ pub fn power(ask: &mut Questions) -> String {
     }
 }
 
-/// A list of power sources.
+/// A list of power sources. In some all but the last are one.
 pub fn sources(dice: &mut Dice) -> String {
     let length = dice.length(4, 40);
-    show_list((0..length).map(|_| named(dice, SOURCES)))
+    let mut list: Vec<String> = (0..length).map(|_| named(dice, SOURCES)).collect();
+    if dice.one_in(4) && length > 1 {
+        let first = list[0].clone();
+        list[..length - 1].fill(first);
+    }
+    show_list(list.into_iter())
 }
 
 /// A cluster: mostly one of a few, some of which are others with their bytes exchanged.

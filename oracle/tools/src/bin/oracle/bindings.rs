@@ -25,9 +25,15 @@ pub fn answer(name: &str, words: &[&str]) -> Option<String> {
             Some(show_flag(matches).to_string())
         }
         ("Binding::eq", [a, b]) => Some(show_flag(entry_of(a)? == entry_of(b)?).to_string()),
-        ("links", [limit, steps @ ..]) => {
+        ("links", [limit, words @ ..]) => {
+            let begin = words.iter().take_while(|w| w.starts_with('h')).count();
+            let (held, steps) = words.split_at(begin);
+            let held: Vec<Binding> = held
+                .iter()
+                .map(|h| entry_of(&h[1..]))
+                .collect::<Option<_>>()?;
             let steps: Vec<Step> = steps.iter().map(|s| step_of(s)).collect::<Option<_>>()?;
-            linked(decimal(limit)?, &steps)
+            linked(decimal(limit)?, &held, &steps)
         }
         _ => None,
     }
@@ -91,12 +97,13 @@ fn step_of(word: &str) -> Option<Step> {
     }
 }
 
-/// What the steps come to in a table of this limit, which is the Rust's N: 0 to 32, and 33 to show that the Rust has more.
-fn linked(limit: usize, steps: &[Step]) -> Option<String> {
+/// What the steps come to in a table of this limit that holds these entries before. The limit is the Rust's N: 0 to 32, and
+/// 33 to show that the Rust has more.
+fn linked(limit: usize, held: &[Binding], steps: &[Step]) -> Option<String> {
     macro_rules! by_limit {
         ($($n:literal)*) => {
             match limit {
-                $($n => Some(run::<$n>(steps)),)*
+                $($n => run::<$n>(held, steps),)*
                 _ => None,
             }
         };
@@ -104,15 +111,18 @@ fn linked(limit: usize, steps: &[Step]) -> Option<String> {
     by_limit!(0 1 2 3 4 5 6 7 8 9 10 11 12 13 14 15 16 17 18 19 20 21 22 23 24 25 26 27 28 29 30 31 32 33)
 }
 
-fn run<const N: usize>(steps: &[Step]) -> String {
-    let mut table = BindingTable::<N>::new();
+fn run<const N: usize>(held: &[Binding], steps: &[Step]) -> Option<String> {
+    let mut table = BindingTable::<N>::empty();
+    for binding in held {
+        table.push(binding.clone()).ok()?;
+    }
     let statuses: Vec<u8> = steps
         .iter()
         .map(|step| status(apply(&mut table, step)))
         .collect();
     let mut words = vec![show_bytes(&statuses), table.len().to_string()];
     words.extend(table.iter().map(show));
-    words.join(" ")
+    Some(words.join(" "))
 }
 
 fn apply<const N: usize>(table: &mut BindingTable<N>, step: &Step) -> probe::Outcome {

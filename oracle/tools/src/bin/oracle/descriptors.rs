@@ -20,7 +20,7 @@ use crate::{refused, wrote};
 
 pub fn answer(name: &str, words: &[&str]) -> Option<String> {
     match name.split_once("::")? {
-        ("NodeDescriptorConfig" | "NodeDescriptor", function) => node_answer(function, words),
+        ("NodeDescriptorConfig" | "NodeDescriptor", _) => node_answer(name, words),
         (_, "is_set" | "get_stack_compliance_revision") => flags_answer(name, words),
         ("PowerDescriptorConfig" | "NodePowerDescriptor", _) => power_answer(name, words),
         (_, "bits" | "bitmap") => bits_answer(name, words),
@@ -43,22 +43,24 @@ fn show_named(reserved: bool, number: u8) -> String {
 
 // ---- node
 
-fn node_answer(function: &str, words: &[&str]) -> Option<String> {
-    match (function, words) {
-        ("default", []) => Some(show_node(&NodeDescriptorConfig::default())),
-        ("write", [node, buffer]) => {
+fn node_answer(name: &str, words: &[&str]) -> Option<String> {
+    match (name, words) {
+        ("NodeDescriptorConfig::default", []) => Some(show_node(&NodeDescriptorConfig::default())),
+        ("NodeDescriptorConfig::write", [node, buffer]) => {
             let node = node_of(node)?;
             Some(wrote(bytes(buffer)?, |out| probe::write_node(&node, out)))
         }
-        ("try_read", [from]) => Some(match NodeDescriptor::try_read(&bytes(from)?, LE) {
-            Ok((_, taken)) => taken.to_string(),
-            Err(_) => refused(),
-        }),
-        ("logical_type", [from]) => {
+        ("NodeDescriptor::try_read", [from]) => {
+            Some(match NodeDescriptor::try_read(&bytes(from)?, LE) {
+                Ok((_, taken)) => taken.to_string(),
+                Err(_) => refused(),
+            })
+        }
+        ("NodeDescriptor::logical_type", [from]) => {
             let from = bytes(from).filter(|b| b.len() >= 13)?;
             Some(show_logical_type(node_probe::over(&from).logical_type()))
         }
-        ("accessors", [from]) => {
+        ("NodeDescriptor::accessors", [from]) => {
             let from = bytes(from).filter(|b| b.len() >= 13)?;
             Some(show_node_fields(&node_probe::over(&from)))
         }
