@@ -44,7 +44,7 @@ fn asked(line: &[u8]) -> Question {
 }
 
 // Puts the answer to a question about fields. The place stays where the line is none.
-pub fn answer(line: &[u8], space: &mut [u8], out: &mut [u8], at: usize) -> usize {
+pub(crate) fn answer(line: &[u8], space: &mut [u8], out: &mut [u8], at: usize) -> usize {
     match asked(line) {
         Question::Read(width) => read(line, width, space, out, at),
         Question::Write(width) => write(line, width, space, out, at),

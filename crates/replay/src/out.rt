@@ -3,7 +3,7 @@
 ghost use Prim.Native.Nat.{_<_};
 
 // Puts one character.
-pub fn byte(out: &mut [u8], at: usize, character: u8) -> usize {
+pub(crate) fn byte(out: &mut [u8], at: usize, character: u8) -> usize {
     if at < out.len() {
         out[at] = character;
         return at + 1;
@@ -12,7 +12,7 @@ pub fn byte(out: &mut [u8], at: usize, character: u8) -> usize {
 }
 
 // Puts characters as they are.
-pub fn text(out: &mut [u8], at: usize, characters: &[u8]) -> usize {
+pub(crate) fn text(out: &mut [u8], at: usize, characters: &[u8]) -> usize {
     let mut at = at;
     let mut i: usize = 0;
     while i < characters.len() {
@@ -23,20 +23,20 @@ pub fn text(out: &mut [u8], at: usize, characters: &[u8]) -> usize {
 }
 
 // Puts a number in decimal.
-pub fn decimal(out: &mut [u8], at: usize, number: usize) -> usize {
+pub(crate) fn decimal(out: &mut [u8], at: usize, number: usize) -> usize {
     let mut digits = [0u8; 20];
     let count = io::decimal(number as u64, &mut digits);
     text(out, at, &digits[..count])
 }
 
 // Puts a number of one byte in hexadecimal, the high digit first.
-pub fn hex_u8(out: &mut [u8], at: usize, number: u8) -> usize {
+pub(crate) fn hex_u8(out: &mut [u8], at: usize, number: u8) -> usize {
     let at = byte(out, at, hex_digit(number / 16));
     byte(out, at, hex_digit(number % 16))
 }
 
 // Puts a number of two bytes in hexadecimal, the high half first.
-pub fn hex_u16(out: &mut [u8], at: usize, number: u16) -> usize {
+pub(crate) fn hex_u16(out: &mut [u8], at: usize, number: u16) -> usize {
     let at = hex_u8(out, at, (number / 256) as u8);
     hex_u8(out, at, (number % 256) as u8)
 }
@@ -48,13 +48,13 @@ fn hex_u32(out: &mut [u8], at: usize, number: u32) -> usize {
 }
 
 // Puts a number of eight bytes in hexadecimal, the high half first.
-pub fn hex_u64(out: &mut [u8], at: usize, number: u64) -> usize {
+pub(crate) fn hex_u64(out: &mut [u8], at: usize, number: u64) -> usize {
     let at = hex_u32(out, at, (number / 4294967296) as u32);
     hex_u32(out, at, (number % 4294967296) as u32)
 }
 
 // Puts bytes in hexadecimal, two digits for each, or `-` where there are none.
-pub fn bytes(out: &mut [u8], at: usize, bytes: &[u8]) -> usize {
+pub(crate) fn bytes(out: &mut [u8], at: usize, bytes: &[u8]) -> usize {
     if bytes.len() == 0 {
         return byte(out, at, b'-');
     }
@@ -78,7 +78,7 @@ fn hex_digit(digit: u8) -> u8
 }
 
 // Puts the answer of a writer: how many bytes it wrote, or the place behind them, and the buffer that it left.
-pub fn wrote(out: &mut [u8], at: usize, count: usize, buffer: &[u8]) -> usize {
+pub(crate) fn wrote(out: &mut [u8], at: usize, count: usize, buffer: &[u8]) -> usize {
     let at = decimal(out, at, count);
     let at = byte(out, at, b' ');
     bytes(out, at, buffer)

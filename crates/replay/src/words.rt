@@ -11,7 +11,7 @@ ghost use lib.ListN.{length};
 
 // Whether a line asks a question: its name, an argument of each of its kinds, and nothing else. The question is written as its
 // name and the letters of its kinds, each after a space: `write_u16 d 2 b`.
-pub fn asks(line: &[u8], question: &[u8]) -> bool {
+pub(crate) fn asks(line: &[u8], question: &[u8]) -> bool {
     let mut i = word_end(question, 0);
     if !is_named(line, front(question, i)) {
         return false;
@@ -117,19 +117,19 @@ fn digit(character: u8) -> u8 {
 }
 
 // The number in a word of a line, of at most eight bytes.
-pub fn hex_in(line: &[u8], word: usize) -> u64 {
+pub(crate) fn hex_in(line: &[u8], word: usize) -> u64 {
     value(word_of(line, word), 16)
 }
 
 // The place or the count in a word of a line. A number of nine digits is its own remainder.
-pub fn decimal_in(line: &[u8], word: usize) -> usize
+pub(crate) fn decimal_in(line: &[u8], word: usize) -> usize
     ensures { λ r. ⌜ r < 1000000000 ⌝ }
 {
     (value(word_of(line, word), 10) % 1000000000) as usize
 }
 
 // Puts the bytes in a word of a line at the front of a slice, as many as it has room for, and answers how many they are.
-pub fn bytes_in(line: &[u8], word: usize, space: &mut [u8]) -> usize
+pub(crate) fn bytes_in(line: &[u8], word: usize, space: &mut [u8]) -> usize
     ensures { λ r. ⌜ r ≤ length (now (space .exit)) ⌝ }
 {
     let digits = word_of(line, word);
@@ -196,7 +196,7 @@ fn word_end(line: &[u8], start: usize) -> usize
 }
 
 // The first bytes of a slice, so many of them, or all where it has fewer.
-pub fn front(bytes: &[u8], count: usize) -> &[u8] {
+pub(crate) fn front(bytes: &[u8], count: usize) -> &[u8] {
     if bytes.len() <= count {
         return bytes;
     }
