@@ -183,6 +183,7 @@ Links =
           mapped linkNumbers (createBindingLink (counting 2 1) (deviceBinding 1 0x0402 (ieeeOf 9) 2))
           ∷ mapped linkNumbers (createBindingLink (counting 1 1) (deviceBinding 1 0x0402 (ieeeOf 9) 2))
           ∷ mapped linkNumbers (createBindingLink (emptyTable 1) (deviceBinding 1 0x0402 (ieeeOf 9) 2))
+          ∷ mapped linkNumbers (createBindingLink (emptyTable 1) unused)
           ∷ mapped linkNumbers (createBindingLink (emptyTable 33) unused)
           ∷ mapped linkNumbers (removeBindingLink (counting 1 1) unused)
           ∷ mapped linkNumbers (removeBindingLink (emptyTable 1) unused)
@@ -192,6 +193,7 @@ Links =
           answer (0x00 ∷ 2 ∷ 2 ∷ 0 ∷ 0 ∷ 0 ∷ 0 ∷ 0 ∷ 1 ∷ [])
           ∷ answer (0x8C ∷ 1 ∷ 1 ∷ 0 ∷ 0 ∷ 0 ∷ 0 ∷ 0 ∷ 1 ∷ [])
           ∷ answer (0x00 ∷ 1 ∷ 1 ∷ 0x0402 ∷ 1 ∷ 9 ∷ 2 ∷ 0 ∷ 3 ∷ [])
+          ∷ answer (0x00 ∷ 1 ∷ 1 ∷ 0 ∷ 0 ∷ 0 ∷ 0 ∷ 0 ∷ 1 ∷ [])
           ∷ refusal 1
           ∷ answer (0x00 ∷ 0 ∷ 1 ∷ 0 ∷ 0 ∷ 0 ∷ 0 ∷ 0 ∷ 1 ∷ [])
           ∷ answer (0x88 ∷ 0 ∷ 1 ∷ 0 ∷ 0 ∷ 0 ∷ 0 ∷ 0 ∷ 1 ∷ [])

@@ -88,10 +88,13 @@ fn refuses(answer: &str) -> bool {
     answer == "R" || behind.is_some_and(|buffer| buffer.is_some())
 }
 
-/// Why nothing is said of a question, if so.
-pub fn outside(question: &str) -> Option<&'static str> {
+/// Why nothing is said of a question and its answer, if so.
+pub fn outside(question: &str, answer: &str) -> Option<&'static str> {
     let words: Vec<&str> = question.split(' ').collect();
     match words[..] {
+        [name, ..] if fields::claim(name).is_some() && refuses(answer) => {
+            Some("no room, which the functions require")
+        }
         ["links", limit, ..] if crate::words::decimal(limit)? > 32 => Some("a limit above 32"),
         ["EndpointDescriptor::write", _, inputs, outputs, ..] => {
             descriptors::crowded(inputs, outputs).then_some("more than 28 clusters")

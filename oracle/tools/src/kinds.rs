@@ -1,9 +1,30 @@
-//! The kinds of answers, by which `compare` counts them.
+//! The kinds of answers, by which they are counted, and what decides answers of a kind.
 
-use crate::words::{decimal, pieces};
+use crate::functions::{Decides, Function};
+use crate::words::{bytes, decimal, pieces};
+
+/// The kind of a refusal of what is too short.
+pub const REFUSED: &str = "refused";
 
 /// The kind of what is no answer: `?`, nothing, or one that the question cannot have.
 pub const NO_ANSWER: &str = "?";
+
+/// The three parts in which answers are counted.
+pub const PARTS: [&str; 3] = [
+    "compared with the Rust",
+    "compared with the Rust over the stand-in of `byte`",
+    "decided by a stand-in, not compared with the Rust",
+];
+
+/// The part in which answers of a kind are counted. Where the Rust goes through `byte`, the
+/// stand-in may have decided to refuse.
+pub fn part_of(function: &Function, kind: &str) -> usize {
+    match function.decides {
+        Decides::Rust => 0,
+        Decides::Byte if kind != REFUSED => 1,
+        _ => 2,
+    }
+}
 
 /// The kind of an answer.
 pub fn kind(question: &str, answer: &str) -> &'static str {
@@ -11,8 +32,7 @@ pub fn kind(question: &str, answer: &str) -> &'static str {
     let answered: Vec<&str> = answer.split(' ').collect();
     let kind = match answered[0] {
         "" | NO_ANSWER => None,
-        "R" if is_of_other_mode(&asked) => Some("refused, mode"),
-        "R" => Some("refused"),
+        "R" => Some(why_refused(&asked)),
         _ => told_apart(&asked, &answered),
     };
     kind.filter(|kind| reachable(asked[0]).contains(kind))
@@ -22,14 +42,17 @@ pub fn kind(question: &str, answer: &str) -> &'static str {
 /// All kinds that the answers to questions about a function can have.
 pub fn reachable(name: &str) -> &'static [&'static str] {
     match name {
-        "parse_bind_req" => &["group", "device", "refused, mode", "refused"],
-        "parse_mgmt_leave_req" => &["address", "no address", "refused"],
-        "parse_node_desc_rsp" => &["mask", "no mask", "refused"],
+        "parse_bind_req" => &["group", "device", "refused, mode", REFUSED],
+        "NodePowerDescriptor::try_read" => {
+            &["answered", "refused, absent", "refused, unnamed", REFUSED]
+        }
+        "parse_mgmt_leave_req" => &["address", "no address", REFUSED],
+        "parse_node_desc_rsp" => &["mask", "short", "other status", REFUSED],
         "stack_revision" => &["mask", "no mask"],
-        "addr_rsp" => &["single", "extended", "refused"],
-        "match_desc_rsp" => &["up to 255", "above 255", "refused"],
-        "simple_desc_rsp" => &["described", "not active", "refused"],
-        "matching_endpoints" => &["all", "full", "none", "no room", "refused"],
+        "addr_rsp" => &["single", "extended", REFUSED],
+        "match_desc_rsp" => &["up to 255", "above 255", REFUSED],
+        "simple_desc_rsp" => &["described", "not active", REFUSED],
+        "matching_endpoints" => &["all", "full", "none", "no room", REFUSED],
         "endpoint" | "supports_endpoint" => &["known", "unknown"],
         "Binding::eq" | "Binding::matches" | "NodePowerDescriptor::supports" => &["yes", "no"],
         "NodeDescriptor::logical_type" | "NodePowerDescriptor::accessors" => &["named", "reserved"],
@@ -44,7 +67,7 @@ pub fn reachable(name: &str) -> &'static [&'static str] {
             "unbind 88",
         ],
         _ if never_refuses(name) => &["answered"],
-        _ => &["answered", "refused"],
+        _ => &["answered", REFUSED],
     }
 }
 
@@ -76,7 +99,7 @@ fn told_apart(asked: &[&str], answered: &[&str]) -> Option<&'static str> {
     match asked[0] {
         "parse_bind_req" => destination(answered.get(2)?),
         "parse_mgmt_leave_req" => given(1, "address", "no address"),
-        "parse_node_desc_rsp" => given(3, "mask", "no mask"),
+        "parse_node_desc_rsp" => given(3, "mask", unmasked(answered.get(1)?)),
         "stack_revision" => given(0, "mask", "no mask"),
         "addr_rsp" => Some(if *asked.get(4)? == "1" {
             "extended"
@@ -99,10 +122,32 @@ fn told_apart(asked: &[&str], answered: &[&str]) -> Option<&'static str> {
     }
 }
 
-/// Is it a bind request of another mode than 1 or 3? The mode is byte 12.
-fn is_of_other_mode(asked: &[&str]) -> bool {
-    let mode = asked.get(1).and_then(|payload| payload.get(24..26));
-    asked[0] == "parse_bind_req" && mode.is_some_and(|mode| mode != "01" && mode != "03")
+/// Why a question was refused: bind requests by their mode, power descriptors by their source, or else for what is too
+/// short.
+fn why_refused(asked: &[&str]) -> &'static str {
+    let payload = asked
+        .get(1)
+        .and_then(|word| bytes(word))
+        .unwrap_or_default();
+    match (asked[0], &payload[..]) {
+        ("parse_bind_req", bytes) if bytes.get(12).is_some_and(|m| *m != 1 && *m != 3) => {
+            "refused, mode"
+        }
+        ("NodePowerDescriptor::try_read", [_, source, ..]) => match source % 16 {
+            1 | 2 | 4 => "refused, absent",
+            _ => "refused, unnamed",
+        },
+        _ => REFUSED,
+    }
+}
+
+/// Why a node reply has no mask: its status, or its length.
+fn unmasked(status: &str) -> &'static str {
+    if status == "00" {
+        "short"
+    } else {
+        "other status"
+    }
 }
 
 /// Where an entry sends.

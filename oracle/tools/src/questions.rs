@@ -3,7 +3,7 @@
 //! A stream depends on the seed and on the function's name alone. Where few questions are possible,
 //! or few that are short, it goes through all of them in an order that the seed gives, with random
 //! ones between, as far as the count lets it: to go through all takes 1,539 questions for payloads
-//! of up to one byte, 18,660 for short sequences of binds and unbinds, and up to 200,000 for a
+//! of up to one byte and all values of a telling byte, 18,660 for short sequences of binds and unbinds, and up to 200,000 for a
 //! server mask or the two bytes of a power descriptor.
 
 mod bindings;

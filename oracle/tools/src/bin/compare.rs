@@ -8,20 +8,13 @@ use std::collections::{HashMap, HashSet};
 use std::process::ExitCode;
 
 use tools::functions::{Decides, Function, functions};
-use tools::kinds::{NO_ANSWER, kind, reachable};
+use tools::kinds::{NO_ANSWER, PARTS, kind, part_of, reachable};
 
 /// With so many questions about a function, each kind of answer must have been reached.
 const ENOUGH: usize = 1000;
 
 /// So many differences are printed.
 const SHOWN: usize = 10;
-
-/// The three parts of the table.
-const PARTS: [&str; 3] = [
-    "compared with the Rust",
-    "compared with the Rust over the stand-in of `byte`",
-    "decided by a stand-in, not compared with the Rust",
-];
 
 fn main() -> ExitCode {
     let paths: Vec<String> = std::env::args().skip(1).collect();
@@ -176,16 +169,6 @@ fn print_row<T: std::fmt::Display>(
     [questions, different, differences]: [T; 3],
 ) {
     println!("  {function:<44}{kind:<20}{questions:>10}{different:>10}{differences:>13}");
-}
-
-/// The part of the table where answers of a kind stand. Where the Rust goes through `byte`, the
-/// stand-in may have decided to refuse.
-fn part_of(function: &Function, kind: &str) -> usize {
-    match function.decides {
-        Decides::Rust => 0,
-        Decides::Byte if kind != "refused" => 1,
-        _ => 2,
-    }
 }
 
 /// A function's name, and in the last part the stand-in that decides.

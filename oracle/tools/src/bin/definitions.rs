@@ -14,6 +14,7 @@ use tools::equations::has_definition;
 use tools::equations::prover::{Fault, refusals};
 use tools::equations::samples::{Sample, Skipped, chosen};
 use tools::functions::functions;
+use tools::kinds::{PARTS, part_of};
 
 fn main() -> ExitCode {
     match run() {
@@ -83,8 +84,21 @@ fn told(samples: &[Sample], skipped: &Skipped, refused: &BTreeMap<usize, String>
         whole &= !own.is_empty() || !has_definition(function.name);
     }
     show_skipped(skipped);
+    for (part, title) in PARTS.iter().enumerate() {
+        let own = samples
+            .iter()
+            .filter(|sample| part_of_sample(sample) == Some(part));
+        println!("{:6} {title}", own.count());
+    }
     println!("{} equations, {} refused", samples.len(), refused.len());
     whole
+}
+
+/// The part in which a sample is counted.
+fn part_of_sample(sample: &Sample) -> Option<usize> {
+    let functions = functions();
+    let function = functions.iter().find(|f| f.name == sample.function)?;
+    Some(part_of(function, sample.kind()))
 }
 
 /// How many samples there are, and of which kinds.

@@ -8,7 +8,7 @@ pub fn claim(name: &str) -> Option<Claim> {
     Some(match name {
         "NodeDescriptorConfig::default" => default_node,
         "NodeDescriptorConfig::write" => write_node,
-        "NodeDescriptor::try_read" => |q, a| try_read("nodeDescriptorIn", "nodeWidths", q, a),
+        "NodeDescriptor::try_read" => try_read_node,
         "NodeDescriptor::logical_type" => logical_type,
         "NodeDescriptor::accessors" => node_accessors,
         "FrequencyBands::is_set" => |q, a| flags(2, "frequencyBandFlag", &BANDS, q, a),
@@ -23,9 +23,7 @@ pub fn claim(name: &str) -> Option<Claim> {
         "CurrentPowerSourceLevel::bits" => |q, a| bits("levelBits", &LEVEL, q, a),
         "PowerSource::bitmap" => bitmap,
         "PowerDescriptorConfig::write" => write_power,
-        "NodePowerDescriptor::try_read" => {
-            |q, a| try_read("powerDescriptorIn", "powerWidths", q, a)
-        }
+        "NodePowerDescriptor::try_read" => try_read_power,
         "NodePowerDescriptor::accessors" => power_accessors,
         "NodePowerDescriptor::supports" => supports,
         "EndpointDescriptor::write" => write_simple,
@@ -145,18 +143,44 @@ fn write_node(mut question: Words, answer: &str) -> Option<Vec<Part>> {
     )
 }
 
-/// A reader of which only the bytes that it took are told.
-fn try_read(reader: &str, widths: &str, mut question: Words, answer: &str) -> Option<Vec<Part>> {
-    let bytes = question.bytes()?;
-    question.end()?;
+/// A reader that refuses bytes, or takes so many as its widths say.
+fn try_read(reader: &str, widths: &str, bytes: &str, answer: &str) -> Option<Part> {
     if answer == "R" {
-        return Some(vec![refused(format!("{reader} {bytes}"), 3)]);
+        return Some(refused(format!("{reader} {bytes}"), 3));
     }
     let took = terms::decimal(answer)?;
-    Some(vec![part(
+    Some(part(
         format!("mapped (λ d. size {widths}) ({reader} {bytes})"),
         format!("answer {took}"),
-    )])
+    ))
+}
+
+/// What it reads is told by the accessors.
+fn try_read_node(mut question: Words, answer: &str) -> Option<Vec<Part>> {
+    let bytes = question.bytes()?;
+    question.end()?;
+    let taken = try_read("nodeDescriptorIn", "nodeWidths", &bytes, answer)?;
+    Some(vec![taken])
+}
+
+/// What it reads are the first two bytes.
+fn try_read_power(mut question: Words, answer: &str) -> Option<Vec<Part>> {
+    let word = question.word()?;
+    let bytes = terms::bytes(word)?;
+    question.end()?;
+    let mut parts = vec![try_read(
+        "powerDescriptorIn",
+        "powerWidths",
+        &bytes,
+        answer,
+    )?];
+    if answer != "R" {
+        parts.push(part(
+            format!("powerDescriptorIn {bytes}"),
+            format!("answer {}", power_bytes(word)?),
+        ));
+    }
+    Some(parts)
 }
 
 /// One field of a node descriptor that is read from bytes.

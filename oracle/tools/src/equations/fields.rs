@@ -1,7 +1,7 @@
-//! Numbers at a place of a slice. The functions require room, so of a refusal it is said that there is none.
+//! Numbers at a place of a slice. The functions require room, so nothing is said of a refusal.
 
 use super::terms::Words;
-use super::{Claim, Part, part, refuses};
+use super::{Claim, Part, part};
 
 pub fn claim(name: &str) -> Option<Claim> {
     Some(match name {
@@ -15,27 +15,21 @@ pub fn claim(name: &str) -> Option<Claim> {
     })
 }
 
-/// Is there room for a field of so many bytes?
-fn fits(width: usize, at: &str, bytes: &str, there_is: bool) -> Part {
-    part(
-        format!("leb ({at} + {width}) (room {bytes})"),
-        there_is.to_string(),
-    )
+/// There is room for a field of so many bytes, as the functions require.
+fn fits(width: usize, at: &str, bytes: &str) -> Part {
+    part(format!("leb ({at} + {width}) (room {bytes})"), "true")
 }
 
 fn read(width: usize, mut question: Words, answer: &str) -> Option<Vec<Part>> {
     let bytes = question.bytes()?;
     let at = question.decimal()?;
     question.end()?;
-    if answer == "R" {
-        return Some(vec![fits(width, &at, &bytes, false)]);
-    }
     let mut answer = Words::of(answer);
     let value = answer.number(2 * width)?;
     let next = answer.decimal()?;
     answer.end()?;
     Some(vec![
-        fits(width, &at, &bytes, true),
+        fits(width, &at, &bytes),
         part(format!("numberAt {width} {bytes} {at}"), value),
         part(format!("{at} + {width}"), next),
     ])
@@ -46,15 +40,12 @@ fn write(width: usize, mut question: Words, answer: &str) -> Option<Vec<Part>> {
     let value = question.number(2 * width)?;
     let before = question.bytes()?;
     question.end()?;
-    if refuses(answer) {
-        return Some(vec![fits(width, &at, &before, false)]);
-    }
     let mut answer = Words::of(answer);
     let next = answer.decimal()?;
     let after = answer.bytes()?;
     answer.end()?;
     Some(vec![
-        fits(width, &at, &before, true),
+        fits(width, &at, &before),
         part(format!("{at} + {width}"), next),
         part(format!("sets {before} {at} (le {width} {value})"), after),
     ])

@@ -52,7 +52,7 @@ pub fn chosen(lines: &[(&str, &str)], each: usize) -> Result<(Vec<Sample>, Skipp
         let mut usable = Vec::new();
         for (question, answer) in own.filter(|(question, _)| seen.insert(*question)) {
             let long = (question.len() + answer.len() > LONGEST).then_some("too long");
-            if let Some(reason) = outside(question).or(long) {
+            if let Some(reason) = outside(question, answer).or(long) {
                 *skipped.entry((function.name, reason)).or_default() += 1;
                 continue;
             }

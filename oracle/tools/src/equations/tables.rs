@@ -38,26 +38,41 @@ pub fn outside(question: &[&str]) -> Option<&'static str> {
 /// A match request is skipped that may have more clusters than this compared: the prover would take long for it.
 const MOST_COMPARED: usize = 300_000;
 
-/// Tables as terms; and of each record its endpoint number with how many clusters it has.
+/// Tables as terms; how many clusters the pools have; and of each record its endpoint number with how many clusters it has.
 struct Tables<'a> {
     pools: String,
+    sizes: [usize; 2],
     rows: String,
-    device: String,
     counts: Vec<(&'a str, usize)>,
 }
 
 fn tables<'a>(question: &mut Words<'a>) -> Option<Tables<'a>> {
-    let pools = format!("(pools {} {})", question.clusters()?, question.clusters()?);
+    let (inputs, outputs) = (question.word()?, question.word()?);
+    let size = |pool| words::pieces(pool, 4).map(|clusters| clusters.len());
     let records = words::pieces(question.word()?, 28)?;
-    let rows = terms::list(records.iter().map(|r| row(r)).collect::<Option<_>>()?);
-    let counts = records.iter().map(|r| cluster_count(r)).collect();
-    let device = format!("(device {rows})");
     Some(Tables {
-        pools,
-        rows,
-        device,
-        counts,
+        pools: format!(
+            "(pools {} {})",
+            terms::clusters(inputs)?,
+            terms::clusters(outputs)?
+        ),
+        sizes: [size(inputs)?, size(outputs)?],
+        rows: terms::list(records.iter().map(|r| row(r)).collect::<Option<_>>()?),
+        counts: records.iter().map(|r| cluster_count(r)).collect(),
     })
+}
+
+impl Tables<'_> {
+    /// The device. Behind the records in use stand some of this endpoint and profile that have both pools whole: what is not
+    /// in use must not be found, nor match.
+    fn device(&self, endpoint: &str, profile: &str) -> String {
+        let Tables {
+            sizes: [inputs, outputs],
+            rows,
+            ..
+        } = self;
+        format!("(device {rows} (row {endpoint} {profile} 0 0 0 {inputs} 0 {outputs}))")
+    }
 }
 
 fn row(record: &str) -> Option<String> {
@@ -75,11 +90,15 @@ fn cluster_count(record: &str) -> (&str, usize) {
     (&record[..2], count(16) + count(24))
 }
 
+/// An endpoint or a profile that does not matter.
+const ANY: &str = "0";
+
 /// The first record of a number, and its parts of both pools.
 fn endpoint(mut question: Words, answer: &str) -> Option<Vec<Part>> {
-    let Tables { pools, device, .. } = tables(&mut question)?;
+    let tables = tables(&mut question)?;
     let number = question.number(2)?;
     question.end()?;
+    let (pools, device) = (&tables.pools, tables.device(&number, ANY));
     let (record, inputs, outputs) = match answer {
         "-" => ("none".to_string(), "-", "-"),
         _ => {
@@ -107,24 +126,31 @@ fn endpoint(mut question: Words, answer: &str) -> Option<Vec<Part>> {
 }
 
 fn supports_endpoint(mut question: Words, answer: &str) -> Option<Vec<Part>> {
-    let Tables { device, .. } = tables(&mut question)?;
+    let tables = tables(&mut question)?;
     let number = question.number(2)?;
     question.end()?;
+    let device = tables.device(&number, ANY);
     Some(vec![part(
         format!("supportsEndpoint {device} {number}"),
         terms::flag(answer)?,
     )])
 }
 
+/// The profile that a match request asks for: bytes 3 and 4.
+fn profile(payload: &str) -> String {
+    match (payload.get(6..8), payload.get(8..10)) {
+        (Some(low), Some(high)) => format!("0x{high}{low}"),
+        _ => ANY.to_string(),
+    }
+}
+
 /// By the device, and by the run of its records.
 fn matching_endpoints(mut question: Words, answer: &str) -> Option<Vec<Part>> {
-    let payload = question.bytes()?;
-    let Tables {
-        pools,
-        rows,
-        device,
-        ..
-    } = tables(&mut question)?;
+    let asked = question.word()?;
+    let payload = terms::bytes(asked)?;
+    let tables = tables(&mut question)?;
+    let (pools, rows) = (&tables.pools, &tables.rows);
+    let device = tables.device(ANY, &profile(asked));
     let before = question.bytes()?;
     question.end()?;
     let (told, after) = told_and_left(&before, answer, 3)?;
@@ -145,7 +171,8 @@ fn matching_endpoints(mut question: Words, answer: &str) -> Option<Vec<Part>> {
 /// By the device, and by the run of its records.
 fn active_ep_rsp(mut question: Words, answer: &str) -> Option<Vec<Part>> {
     let (seq, short) = (question.number(2)?, address(&question.number(4)?));
-    let Tables { rows, device, .. } = tables(&mut question)?;
+    let tables = tables(&mut question)?;
+    let (rows, device) = (&tables.rows, tables.device(ANY, ANY));
     let buffer = question.word()?;
     question.end()?;
     let mut parts = wrote(
@@ -168,15 +195,12 @@ fn simple_desc_rsp(mut question: Words, answer: &str) -> Option<Vec<Part>> {
     let (seq, short) = (question.number(2)?, address(&question.number(4)?));
     let asked = question.word()?;
     let number = terms::number(asked, 2)?;
-    let Tables {
-        pools,
-        device,
-        counts,
-        ..
-    } = tables(&mut question)?;
+    let tables = tables(&mut question)?;
+    let (pools, device) = (&tables.pools, tables.device(&number, ANY));
     let buffer = question.word()?;
     question.end()?;
-    let crowded = counts
+    let crowded = tables
+        .counts
         .iter()
         .find(|(n, _)| *n == asked)
         .is_some_and(|(_, clusters)| *clusters > 28);

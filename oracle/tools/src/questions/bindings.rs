@@ -38,15 +38,18 @@ enum To {
 }
 
 impl Entry {
-    /// Any entry.
+    /// Any entry. One in eight has zeros in all fields, but perhaps for the mode.
     fn any(dice: &mut Dice) -> Entry {
+        let zeros = dice.one_in(8);
+        let mut number = |bytes| if zeros { 0 } else { dice.number(bytes) };
+        let (group, ieee, endpoint) = (number(2), number(8), number(1));
         let to = match dice.below(2) {
-            0 => To::Group(dice.number(2) as u16),
-            _ => To::Device(dice.number(8), dice.byte()),
+            0 => To::Group(group as u16),
+            _ => To::Device(ieee, endpoint as u8),
         };
         Entry {
-            source: dice.byte(),
-            cluster: cluster(dice),
+            source: if zeros { 0 } else { dice.byte() },
+            cluster: if zeros { 0 } else { cluster(dice) },
             to,
         }
     }
@@ -80,7 +83,7 @@ impl To {
     /// This destination with the mode changed, or a bit of the address, or of the endpoint.
     fn near(self, dice: &mut Dice, field: usize) -> To {
         match (field, self) {
-            (2, To::Group(group)) => To::Device(group.into(), dice.byte()),
+            (2, To::Group(group)) => To::Device(group.into(), 0),
             (2, To::Device(ieee, _)) => To::Group(ieee as u16),
             (_, To::Group(group)) => To::Group(group ^ 1 << dice.below(16)),
             (3, To::Device(ieee, to)) => To::Device(ieee ^ 1 << dice.below(64), to),

@@ -193,10 +193,10 @@ fn simple(dice: &mut Dice) -> Vec<u8> {
 /// A bind request, sometimes of another mode than the two.
 fn bind(dice: &mut Dice) -> Vec<u8> {
     let mut bytes = fields(dice, &[1, 8, 1, 2]);
-    let mode = if dice.one_in(8) {
-        dice.byte()
-    } else {
-        dice.pick(&[1, 3])
+    let mode = match dice.below(8) {
+        0 => dice.byte(),
+        1..4 => dice.below(5) as u8,
+        _ => dice.pick(&[1, 3]),
     };
     bytes.push(mode);
     bytes.extend(match mode {

@@ -144,55 +144,59 @@ fn show_logical_type(value: LogicalType) -> String {
 
 fn flags_answer(name: &str, words: &[&str]) -> Option<String> {
     let [field] = words else { return None };
-    match name {
-        "FrequencyBands::is_set" => {
-            use FrequencyBandFlag::*;
-            let field = u8_of(field)?;
-            Some(flags([Low, Mid, High, EuropeanFSK], |f| {
-                node_probe::band_is_set(field, f)
-            }))
-        }
-        "MacCapabilities::is_set" => {
-            use MacCapabilityFlag::*;
-            let field = u8_of(field)?;
-            let all = [
-                AlternatePanCoordinator,
-                DeviceType,
-                PowerSource,
-                ReceiverOnWhenIdle,
-                SecurityCapability,
-                AllocateAddress,
-            ];
-            Some(flags(all, |f| node_probe::mac_is_set(field, f)))
-        }
-        "ServerMask::is_set" => {
-            use ServerMaskFlag::*;
-            let field = u16_of(field)?;
-            let all = [
-                PrimaryTrustCenter,
-                BackupTrustCenter,
-                PrimaryBindingTableCache,
-                BackupBindingTableCache,
-                PrimaryDiscoveryCache,
-                BackupDiscoveryCache,
-                NetworkManager,
-            ];
-            Some(flags(all, |f| node_probe::mask_is_set(field, f)))
-        }
-        "DescriptorCapabilities::is_set" => {
-            use DescriptorCapabilityFlag::*;
-            let field = u8_of(field)?;
-            let all = [
-                ExtendedActiveEndpontListAvailable,
-                ExtendedSimpleDescriptorListAvailable,
-            ];
-            Some(flags(all, |f| node_probe::capability_is_set(field, f)))
-        }
+    Some(match name {
+        "FrequencyBands::is_set" => band_flags(u8_of(field)?),
+        "MacCapabilities::is_set" => mac_flags(u8_of(field)?),
+        "ServerMask::is_set" => mask_flags(u16_of(field)?),
+        "DescriptorCapabilities::is_set" => capability_flags(u8_of(field)?),
         "ServerMask::get_stack_compliance_revision" => {
-            Some(format!("{:02X}", node_probe::revision(u16_of(field)?)))
+            format!("{:02X}", node_probe::revision(u16_of(field)?))
         }
-        _ => None,
-    }
+        _ => return None,
+    })
+}
+
+fn band_flags(field: u8) -> String {
+    use FrequencyBandFlag::*;
+    flags([Low, Mid, High, EuropeanFSK], |f| {
+        node_probe::band_is_set(field, f)
+    })
+}
+
+fn mac_flags(field: u8) -> String {
+    use MacCapabilityFlag::*;
+    let all = [
+        AlternatePanCoordinator,
+        DeviceType,
+        PowerSource,
+        ReceiverOnWhenIdle,
+        SecurityCapability,
+        AllocateAddress,
+    ];
+    flags(all, |f| node_probe::mac_is_set(field, f))
+}
+
+fn mask_flags(field: u16) -> String {
+    use ServerMaskFlag::*;
+    let all = [
+        PrimaryTrustCenter,
+        BackupTrustCenter,
+        PrimaryBindingTableCache,
+        BackupBindingTableCache,
+        PrimaryDiscoveryCache,
+        BackupDiscoveryCache,
+        NetworkManager,
+    ];
+    flags(all, |f| node_probe::mask_is_set(field, f))
+}
+
+fn capability_flags(field: u8) -> String {
+    use DescriptorCapabilityFlag::*;
+    let all = [
+        ExtendedActiveEndpontListAvailable,
+        ExtendedSimpleDescriptorListAvailable,
+    ];
+    flags(all, |f| node_probe::capability_is_set(field, f))
 }
 
 /// A flag for each of these, without spaces.
