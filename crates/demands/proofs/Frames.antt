@@ -2,19 +2,19 @@
 use Prim.Native.Nat.{ℕ, _+_, _*_, _≤_}
 use native.Mathlib.Omega.{arith}
 use mathlib.Core.Path.{_≡_, refl, ap}
-use mathlib.Core.List.{List, [], _∷_, _++_, map}
+use mathlib.Core.List.{[], _∷_, _++_}
 use lib.ListN.{length, length-append}
 use borrow.Author.Tests.{le-leb}
 use Rattle.zigbee_types.specs.Outcome.{answer, andThen, mapped}
 use Rattle.zigbee_types.specs.Bytes.{le, number, numberAt}
-use Rattle.zigbee_types.specs.Layout.{byte, word, laid, size}
-use Rattle.zigbee_types.specs.FieldLaws.{widths}
+use Rattle.zigbee_types.specs.Layout.{byte, laid, size}
 use Rattle.zigbee_types.specs.Statuses.{SUCCESS}
 use Rattle.zigbee_types.specs.declared.ShortAddress.{ShortAddress}
 use Rattle.zigbee_types.proofs.Layouts.{laid-counted}
-use Rattle.apl_descriptors.specs.NodeDescriptor.{nodeDescriptor, nodeWidths}
-use Rattle.apl_descriptors.specs.PowerDescriptor.{powerDescriptor, powerWidths}
-use Rattle.apl_descriptors.specs.SimpleDescriptor.{Endpoint, clusterList, clusterCount, simpleHeader, simpleWidths, simpleDescriptor, simpleWritten}
+use Rattle.node_descriptor.specs.NodeDescriptor.{nodeDescriptor, nodeWidths}
+use Rattle.node_power_descriptor.specs.PowerDescriptor.{powerDescriptor, powerWidths}
+use Rattle.simple_descriptor.specs.SimpleDescriptor.{Endpoint, clusterCount, simpleHeader, simpleWidths, simpleDescriptor, simpleWritten}
+use Rattle.simple_descriptor.proofs.Written.{simple-length}
 use Rattle.zdo_requests.specs.Requests.{addrOfInterestWidths, addrOfInterestFields, nodeDescReq}
 use Rattle.zdo_replies.specs.Replies.{header, addrHeader, matchErrorFields, statusFields, nodeDescRsp, powerDescRsp, descriptorRspError, listRsp, emptyRsp, matchDescRspError, describedRsp, addrRsp, addrRspSingle, addrRspExtended, statusRsp}
 use Rattle.zdo_readers.specs.Readers.{headerWidths, addrWidths, matchErrorWidths, statusWidths}
@@ -34,35 +34,19 @@ one-layout =
       nodeRequest = λ seq a. refl;
     }
 
--- words take two bytes each
-size-words : (xs : List ℕ) → size (widths (map word xs)) ≡ 2 * length xs
-unfolding size
-size-words [] = refl
-size-words (x ∷ xs) = omega (arith, size-words xs)
-
--- a list of clusters takes its count and two bytes for each
-length-clusters : (xs : List ℕ) → length (clusterList xs) ≡ 1 + 2 * length xs
-unfolding clusterList size
-length-clusters xs = rw laid-counted (omega (arith, size-words xs))
-
--- a simple descriptor takes eight bytes and two for each cluster
-pub length-simple : (e : Endpoint) → length (simpleDescriptor e) ≡ 8 + 2 * clusterCount e
-unfolding simpleDescriptor simpleHeader clusterCount size
-length-simple e = rw (length-append, length-append, laid-counted, length-clusters, length-clusters) (omega arith)
-
 module _ (seq : ℕ) (a : ShortAddress) (e : Endpoint) (few : clusterCount e ≤ 28) where
   -- the reply is its header, the length, and the descriptor
-  described : describedRsp seq a e ≡ answer (laid (header seq SUCCESS a ++ byte (length (simpleDescriptor e)) ∷ []) ++ simpleDescriptor e)
+  described : describedRsp seq a e ≡ answer (laid (header seq SUCCESS a ++ byte (length (laid (simpleDescriptor e))) ∷ []) ++ laid (simpleDescriptor e))
   unfolding describedRsp simpleWritten andThen
   described = rw (le-leb _ _ few)
 
   described-length : mapped length (describedRsp seq a e) ≡ answer (5 + (8 + 2 * clusterCount e))
   unfolding mapped header size
-  described-length = rw (described, length-append, laid-counted, length-simple)
+  described-length = rw (described, length-append, laid-counted, simple-length)
 
   described-byte : mapped (λ bytes. numberAt 1 bytes 4) (describedRsp seq a e) ≡ answer (8 + 2 * clusterCount e)
   unfolding mapped header laid le numberAt number
-  described-byte = rw (described, length-simple) (ap answer (omega arith))
+  described-byte = rw (described, simple-length) (ap answer (omega arith))
 
 pub reply-lengths : ReplyLengths
 unfolding mapped nodeDescRsp powerDescRsp descriptorRspError listRsp emptyRsp matchDescRspError addrRsp addrRspSingle addrRspExtended statusRsp nodeDescReq header addrHeader matchErrorFields statusFields addrOfInterestFields nodeDescriptor powerDescriptor size

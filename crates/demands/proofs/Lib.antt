@@ -1,2 +1,4 @@
 pub mod CounterCases
 pub mod Frames
+pub mod ReadBack
+pub mod OneAnswer

@@ -4,16 +4,16 @@ use mathlib.Core.Bool.{true, false}
 use mathlib.Core.List.{List, [], _∷_, _++_}
 use lib.ListN.{drop}
 use Rattle.zigbee_types.specs.Outcome.{Outcome, answer, refusal, andThen}
-use Rattle.apl_descriptors.specs.declared.descriptor.NodeDescriptorConfig.{NodeDescriptorConfig}
-use Rattle.apl_descriptors.specs.declared.descriptor.PowerDescriptorConfig.{PowerDescriptorConfig}
-use Rattle.apl_descriptors.specs.declared.node_descriptor.LogicalType.{LogicalType}
-use Rattle.apl_descriptors.specs.declared.node_descriptor.LogicalType.the-variants as type
-use Rattle.apl_descriptors.specs.declared.node_power_descriptor.CurrentPowerMode.{CurrentPowerMode}
-use Rattle.apl_descriptors.specs.declared.node_power_descriptor.CurrentPowerMode.the-variants as mode
-use Rattle.apl_descriptors.specs.declared.node_power_descriptor.PowerSource.{PowerSource}
-use Rattle.apl_descriptors.specs.declared.node_power_descriptor.PowerSource.the-variants as source
-use Rattle.apl_descriptors.specs.declared.node_power_descriptor.CurrentPowerSourceLevel.{CurrentPowerSourceLevel}
-use Rattle.apl_descriptors.specs.declared.node_power_descriptor.CurrentPowerSourceLevel.the-variants as level
+use Rattle.node_descriptor.specs.declared.descriptor.NodeDescriptorConfig.{NodeDescriptorConfig}
+use Rattle.node_power_descriptor.specs.declared.descriptor.PowerDescriptorConfig.{PowerDescriptorConfig}
+use Rattle.node_descriptor.specs.declared.LogicalType.{LogicalType}
+use Rattle.node_descriptor.specs.declared.LogicalType.the-variants as type
+use Rattle.node_power_descriptor.specs.declared.CurrentPowerMode.{CurrentPowerMode}
+use Rattle.node_power_descriptor.specs.declared.CurrentPowerMode.the-variants as mode
+use Rattle.node_power_descriptor.specs.declared.PowerSource.{PowerSource}
+use Rattle.node_power_descriptor.specs.declared.PowerSource.the-variants as source
+use Rattle.node_power_descriptor.specs.declared.CurrentPowerSourceLevel.{CurrentPowerSourceLevel}
+use Rattle.node_power_descriptor.specs.declared.CurrentPowerSourceLevel.the-variants as level
 use Rattle.aps_binding.specs.Table.{emptyTable}
 use Rattle.aps_binding.specs.declared.binding.BindingTable.{BindingTable}
 use Rattle.zdo_requests.specs.Requests.{matchDescReqIn}

@@ -5,8 +5,8 @@ use mathlib.Core.List.{List, [], _∷_, _++_, map}
 use lib.ListN.{length, take, replicate}
 use Rattle.zigbee_types.specs.Outcome.{Outcome, answer, refusal, andThen, mapped, fitted, begunLength, begun}
 use Rattle.zigbee_types.specs.Layout.{laid}
-use Rattle.apl_descriptors.specs.NodeDescriptor.{defaultNode, nodeDescriptor}
-use Rattle.apl_descriptors.specs.PowerDescriptor.{powerDescriptor, powerDescriptorIn, powerFields}
+use Rattle.node_descriptor.specs.NodeDescriptor.{defaultNode, nodeDescriptor}
+use Rattle.node_power_descriptor.specs.PowerDescriptor.{powerDescriptor, powerDescriptorIn, powerFields}
 use Rattle.aps_binding.specs.Table.{emptyTable}
 use Rattle.zdo_replies.specs.Replies.{nodeDescRsp}
 use Rattle.zdo_readers.specs.Readers.{nodeDescRspIn, stackRevisionOf}

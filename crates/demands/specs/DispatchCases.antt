@@ -6,8 +6,8 @@ use lib.ListN.{length, take, drop, replicate}
 use Rattle.zigbee_types.specs.Bytes.{bit}
 use Rattle.zigbee_types.specs.Outcome.{Outcome, answer, refusal, mapped, fitted, written}
 use Rattle.zigbee_types.specs.Addresses.{shortOf}
-use Rattle.apl_descriptors.specs.declared.node_descriptor.LogicalType.{LogicalType}
-use Rattle.apl_descriptors.specs.declared.node_descriptor.LogicalType.the-variants as type
+use Rattle.node_descriptor.specs.declared.LogicalType.{LogicalType}
+use Rattle.node_descriptor.specs.declared.LogicalType.the-variants as type
 use Rattle.aps_binding.specs.Entry.{key}
 use Rattle.aps_binding.specs.Table.{emptyTable}
 use Rattle.zdo_requests.specs.Requests.{addrOfInterestIn, mgmtLeaveReqIn, nodeDescReq}

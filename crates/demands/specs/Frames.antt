@@ -10,11 +10,11 @@ use Rattle.zigbee_types.specs.Bytes.{numberAt}
 use Rattle.zigbee_types.specs.FieldLaws.{widths}
 use Rattle.zigbee_types.specs.declared.IeeeAddress.{IeeeAddress}
 use Rattle.zigbee_types.specs.declared.ShortAddress.{ShortAddress}
-use Rattle.apl_descriptors.specs.NodeDescriptor.{nodeDescriptor, nodeWidths}
-use Rattle.apl_descriptors.specs.PowerDescriptor.{powerDescriptor, powerWidths}
-use Rattle.apl_descriptors.specs.SimpleDescriptor.{Endpoint, clusterCount, simpleHeader, simpleWidths}
-use Rattle.apl_descriptors.specs.declared.descriptor.NodeDescriptorConfig.{NodeDescriptorConfig}
-use Rattle.apl_descriptors.specs.declared.descriptor.PowerDescriptorConfig.{PowerDescriptorConfig}
+use Rattle.node_descriptor.specs.NodeDescriptor.{nodeDescriptor, nodeWidths}
+use Rattle.node_power_descriptor.specs.PowerDescriptor.{powerDescriptor, powerWidths}
+use Rattle.simple_descriptor.specs.SimpleDescriptor.{Endpoint, clusterCount, simpleHeader, simpleWidths}
+use Rattle.node_descriptor.specs.declared.descriptor.NodeDescriptorConfig.{NodeDescriptorConfig}
+use Rattle.node_power_descriptor.specs.declared.descriptor.PowerDescriptorConfig.{PowerDescriptorConfig}
 use Rattle.zdo_requests.specs.Requests.{addrOfInterestWidths, addrOfInterestFields, nodeDescReq}
 use Rattle.zdo_replies.specs.Replies.{header, addrHeader, matchErrorFields, statusFields, nodeDescRsp, powerDescRsp, descriptorRspError, listRsp, emptyRsp, matchDescRspError, describedRsp, addrRsp, addrRspSingle, statusRsp}
 use Rattle.zdo_readers.specs.Readers.{headerWidths, addrWidths, matchErrorWidths, statusWidths}

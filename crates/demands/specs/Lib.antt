@@ -6,3 +6,5 @@ pub mod DeviceCases
 pub mod ReaderCases
 pub mod Claim
 pub mod Frames
+pub mod ReadBack
+pub mod OneAnswer

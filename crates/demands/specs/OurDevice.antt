@@ -4,12 +4,12 @@ use mathlib.Core.Bool.{false}
 use mathlib.Core.List.{List, [], _∷_, _++_}
 use lib.ListN.{length, replicate}
 use Rattle.zigbee_types.specs.Addresses.{ieeeOf, shortOf}
-use Rattle.apl_descriptors.specs.declared.descriptor.NodeDescriptorConfig.{NodeDescriptorConfig}
-use Rattle.apl_descriptors.specs.declared.descriptor.PowerDescriptorConfig.{PowerDescriptorConfig}
-use Rattle.apl_descriptors.specs.declared.node_descriptor.LogicalType.the-variants.{EndDevice}
-use Rattle.apl_descriptors.specs.declared.node_power_descriptor.CurrentPowerMode.the-variants.{Stimulated}
-use Rattle.apl_descriptors.specs.declared.node_power_descriptor.PowerSource.the-variants.{DisposableBattery}
-use Rattle.apl_descriptors.specs.declared.node_power_descriptor.CurrentPowerSourceLevel.the-variants.{TwoThirds}
+use Rattle.node_descriptor.specs.declared.descriptor.NodeDescriptorConfig.{NodeDescriptorConfig}
+use Rattle.node_power_descriptor.specs.declared.descriptor.PowerDescriptorConfig.{PowerDescriptorConfig}
+use Rattle.node_descriptor.specs.declared.LogicalType.the-variants.{EndDevice}
+use Rattle.node_power_descriptor.specs.declared.CurrentPowerMode.the-variants.{Stimulated}
+use Rattle.node_power_descriptor.specs.declared.PowerSource.the-variants.{DisposableBattery}
+use Rattle.node_power_descriptor.specs.declared.CurrentPowerSourceLevel.the-variants.{TwoThirds}
 use Rattle.zdo_device.specs.Tables.{Pools}
 use Rattle.zdo_device.specs.declared.descriptor.EndpointDescriptor.{EndpointDescriptor}
 use Rattle.zdo_device.specs.declared.descriptor.DeviceDescriptorConfig.{DeviceDescriptorConfig}

@@ -10,20 +10,20 @@ use Rattle.zigbee_types.specs.Outcome.{Outcome, answer, refusal, mapped}
 use Rattle.zigbee_types.specs.Layout.{laid}
 use Rattle.zigbee_types.specs.Addresses.{groupOf}
 use Rattle.zigbee_types.specs.declared.Places.{Places}
-use Rattle.apl_descriptors.specs.NodeDescriptor.{typeNumber, logicalType, defaultNode, nodeDescriptor, nodeDescriptorIn, nodeFields}
-use Rattle.apl_descriptors.specs.PowerDescriptor.{sourceBitmap, powerDescriptor, powerDescriptorIn, powerFields, supports, modeBits, currentPowerMode, sourceBits, powerSource, levelBits, currentPowerSourceLevel}
-use Rattle.apl_descriptors.specs.Flags.{frequencyBandFlag, macCapabilityFlag, serverMaskFlag, descriptorCapabilityFlag}
-use Rattle.apl_descriptors.specs.SimpleDescriptor.{simpleDescriptorIn}
-use Rattle.apl_descriptors.specs.declared.descriptor.NodeDescriptorConfig.{NodeDescriptorConfig}
-use Rattle.apl_descriptors.specs.declared.node_descriptor.LogicalType.the-variants as type
-use Rattle.apl_descriptors.specs.declared.node_descriptor.FrequencyBandFlag.the-variants.{Low, Mid, High, EuropeanFSK}
-use Rattle.apl_descriptors.specs.declared.node_descriptor.MacCapabilityFlag.the-variants.{AlternatePanCoordinator, DeviceType, PowerSource, ReceiverOnWhenIdle, SecurityCapability, AllocateAddress}
-use Rattle.apl_descriptors.specs.declared.node_descriptor.ServerMaskFlag.the-variants.{PrimaryTrustCenter, BackupTrustCenter, PrimaryBindingTableCache, BackupBindingTableCache, PrimaryDiscoveryCache, BackupDiscoveryCache, NetworkManager}
-use Rattle.apl_descriptors.specs.declared.node_descriptor.DescriptorCapabilityFlag.the-variants.{ExtendedActiveEndpontListAvailable, ExtendedSimpleDescriptorListAvailable}
-use Rattle.apl_descriptors.specs.declared.node_power_descriptor.CurrentPowerMode.the-variants as mode
-use Rattle.apl_descriptors.specs.declared.node_power_descriptor.PowerSource.{PowerSource as Source}
-use Rattle.apl_descriptors.specs.declared.node_power_descriptor.PowerSource.the-variants as source
-use Rattle.apl_descriptors.specs.declared.node_power_descriptor.CurrentPowerSourceLevel.the-variants as level
+use Rattle.node_descriptor.specs.NodeDescriptor.{typeBits, logicalType, defaultNode, nodeDescriptor, nodeDescriptorIn, nodeFields}
+use Rattle.node_power_descriptor.specs.PowerDescriptor.{sourceBitmap, powerDescriptor, powerDescriptorIn, powerFields, supports, modeBits, currentPowerMode, sourceBits, powerSource, levelBits, currentPowerSourceLevel}
+use Rattle.node_descriptor.specs.Flags.{frequencyBandFlag, macCapabilityFlag, serverMaskFlag, descriptorCapabilityFlag}
+use Rattle.simple_descriptor.specs.SimpleDescriptor.{simpleDescriptorIn}
+use Rattle.node_descriptor.specs.declared.descriptor.NodeDescriptorConfig.{NodeDescriptorConfig}
+use Rattle.node_descriptor.specs.declared.LogicalType.the-variants as type
+use Rattle.node_descriptor.specs.declared.FrequencyBandFlag.the-variants.{Low, Mid, High, EuropeanFSK}
+use Rattle.node_descriptor.specs.declared.MacCapabilityFlag.the-variants.{AlternatePanCoordinator, DeviceType, PowerSource, ReceiverOnWhenIdle, SecurityCapability, AllocateAddress}
+use Rattle.node_descriptor.specs.declared.ServerMaskFlag.the-variants.{PrimaryTrustCenter, BackupTrustCenter, PrimaryBindingTableCache, BackupBindingTableCache, PrimaryDiscoveryCache, BackupDiscoveryCache, NetworkManager}
+use Rattle.node_descriptor.specs.declared.DescriptorCapabilityFlag.the-variants.{ExtendedActiveEndpontListAvailable, ExtendedSimpleDescriptorListAvailable}
+use Rattle.node_power_descriptor.specs.declared.CurrentPowerMode.the-variants as mode
+use Rattle.node_power_descriptor.specs.declared.PowerSource.{PowerSource as Source}
+use Rattle.node_power_descriptor.specs.declared.PowerSource.the-variants as source
+use Rattle.node_power_descriptor.specs.declared.CurrentPowerSourceLevel.the-variants as level
 use Rattle.aps_binding.specs.Entry.{groupBinding, routes}
 use Rattle.zdo_replies.specs.Codes.{bindCode, discoveryCode, leaveStatus}
 use Rattle.zdo_replies.specs.declared.descriptor.BindStatus.the-variants as bind
@@ -254,7 +254,7 @@ unfoldable pub NamedNumbers : Case
 NamedNumbers =
     record {
       says =
-          answer (map typeNumber (type.Coordinator ∷ type.Router ∷ type.EndDevice ∷ type.Reserved 0xFB ∷ []))
+          answer (map typeBits (type.Coordinator ∷ type.Router ∷ type.EndDevice ∷ type.Reserved 0xFB ∷ []))
           ∷ answer (map modeBits (mode.Synchronized ∷ mode.Periodically ∷ mode.Stimulated ∷ mode.Reserved 0xF3 ∷ []))
           ∷ answer (map sourceBits (source.ConstantMainPower ∷ source.RechargeableBattery ∷ source.DisposableBattery ∷ source.Reserved 0xF8 ∷ []))
           ∷ answer (map levelBits (level.Critical ∷ level.OneThird ∷ level.TwoThirds ∷ level.Full ∷ level.Reserved 0xF1 ∷ []))

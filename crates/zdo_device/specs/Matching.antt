@@ -7,7 +7,7 @@ use lib.ListN.{length}
 use Rattle.zigbee_types.specs.Outcome.{Outcome, answer, refusal}
 use Rattle.zigbee_types.specs.Layout.{behind, entriesAt}
 use Rattle.zigbee_types.specs.Lists.{any, filter}
-use Rattle.apl_descriptors.specs.SimpleDescriptor.{Endpoint}
+use Rattle.simple_descriptor.specs.SimpleDescriptor.{Endpoint}
 use Rattle.zdo_requests.specs.declared.descriptor.MatchDescReq.{MatchDescReq}
 use Rattle.zdo_device.specs.Tables.{Pools, used, goodRecords, resolvedIn}
 use Rattle.zdo_device.specs.declared.descriptor.EndpointDescriptor.{EndpointDescriptor}

@@ -7,7 +7,7 @@ use mathlib.Core.Option.{Option}
 use lib.Dec.{eqb, leb}
 use lib.ListN.{length, take}
 use Rattle.zigbee_types.specs.Lists.{part, all, find, option}
-use Rattle.apl_descriptors.specs.SimpleDescriptor.{Endpoint}
+use Rattle.simple_descriptor.specs.SimpleDescriptor.{Endpoint}
 use Rattle.zdo_device.specs.declared.descriptor.EndpointDescriptor.{EndpointDescriptor}
 use Rattle.zdo_device.specs.declared.descriptor.DeviceDescriptorConfig.{DeviceDescriptorConfig}
 use Rattle.zdo_device.specs.declared.descriptor.Side.{Side}

@@ -1,6 +1,6 @@
 // The descriptors this device advertises to the network (000).
-use apl_descriptors::descriptor::NodeDescriptorConfig;
-use apl_descriptors::descriptor::PowerDescriptorConfig;
+use node_descriptor::descriptor::NodeDescriptorConfig;
+use node_power_descriptor::descriptor::PowerDescriptorConfig;
 
 // One application endpoint exposed by this device (2.3.2.5). Its clusters are a start and a count in each of two lent pools.
 pub struct EndpointDescriptor {

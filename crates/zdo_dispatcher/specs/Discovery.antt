@@ -8,8 +8,8 @@ use Rattle.zigbee_types.specs.Outcome.{Outcome, refusal, andThen, fitted}
 use Rattle.zigbee_types.specs.Addresses.{ieeeOf, shortOf, sameIeee, sameShort}
 use Rattle.zigbee_types.specs.Statuses.{INV-REQUESTTYPE, DEVICE-NOT-FOUND}
 use Rattle.zigbee_types.specs.declared.ShortAddress.{ShortAddress}
-use Rattle.apl_descriptors.specs.declared.node_descriptor.LogicalType.{LogicalType}
-use Rattle.apl_descriptors.specs.declared.node_descriptor.LogicalType.the-variants.{Coordinator, Router, EndDevice, Reserved}
+use Rattle.node_descriptor.specs.declared.LogicalType.{LogicalType}
+use Rattle.node_descriptor.specs.declared.LogicalType.the-variants.{Coordinator, Router, EndDevice, Reserved}
 use Rattle.zdo_requests.specs.Clusters.{NWK-ADDR-REQ, IEEE-ADDR-REQ, NODE-DESC-REQ, POWER-DESC-REQ, SIMPLE-DESC-REQ, ACTIVE-EP-REQ, MATCH-DESC-REQ, ADDR-REQUEST-SINGLE, ADDR-REQUEST-EXTENDED}
 use Rattle.zdo_requests.specs.Requests.{nwkAddrReqIn, ieeeAddrReqIn, addrOfInterestReqIn, simpleDescReqIn, matchDescReqIn}
 use Rattle.zdo_requests.specs.declared.descriptor.NwkAddrReq.{NwkAddrReq}

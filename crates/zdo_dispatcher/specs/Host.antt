@@ -5,7 +5,7 @@ use mathlib.Core.List.{List}
 use lib.ListN.{length}
 use Rattle.zigbee_types.specs.declared.IeeeAddress.{IeeeAddress}
 use Rattle.zigbee_types.specs.declared.ShortAddress.{ShortAddress}
-use Rattle.apl_descriptors.specs.SimpleDescriptor.{Endpoint}
+use Rattle.simple_descriptor.specs.SimpleDescriptor.{Endpoint}
 use Rattle.zdo_device.specs.Tables.{Pools, used, goodDevice, resolvedIn}
 use Rattle.zdo_device.specs.declared.descriptor.DeviceDescriptorConfig.{DeviceDescriptorConfig}
 

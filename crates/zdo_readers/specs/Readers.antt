@@ -12,10 +12,10 @@ use Rattle.zigbee_types.specs.Layout.{parsed, counted, behind}
 use Rattle.zigbee_types.specs.Addresses.{ieeeOf, shortOf}
 use Rattle.zigbee_types.specs.Statuses.{SUCCESS}
 use Rattle.zigbee_types.specs.declared.Places.{Places}
-use Rattle.apl_descriptors.specs.NodeDescriptor.{nodeDescriptorIn, stackRevision}
-use Rattle.apl_descriptors.specs.PowerDescriptor.{powerDescriptorIn}
-use Rattle.apl_descriptors.specs.SimpleDescriptor.{simpleDescriptorIn}
-use Rattle.apl_descriptors.specs.declared.simple_descriptor.SimpleDescriptorFields.{SimpleDescriptorFields}
+use Rattle.node_descriptor.specs.NodeDescriptor.{nodeDescriptorIn, stackRevision}
+use Rattle.node_power_descriptor.specs.PowerDescriptor.{powerDescriptorIn}
+use Rattle.simple_descriptor.specs.SimpleDescriptor.{simpleDescriptorIn}
+use Rattle.simple_descriptor.specs.declared.SimpleDescriptorFields.{SimpleDescriptorFields}
 use Rattle.zdo_readers.specs.declared.descriptor.NodeDescRsp.{NodeDescRsp}
 use Rattle.zdo_readers.specs.declared.descriptor.OptionServerMask.{OptionServerMask}
 use Rattle.zdo_readers.specs.declared.descriptor.OptionServerMask.the-variants as mask

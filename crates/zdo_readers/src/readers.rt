@@ -1,7 +1,7 @@
 // Whole replies as they are read (added by design). Lists are places counted from the start of the reply.
-use apl_descriptors::node_descriptor::NodeDescriptor;
-use apl_descriptors::node_power_descriptor::NodePowerDescriptor;
-use apl_descriptors::simple_descriptor::SimpleDescriptorFields;
+use node_descriptor::NodeDescriptor;
+use node_power_descriptor::NodePowerDescriptor;
+use simple_descriptor::SimpleDescriptorFields;
 use zigbee_types::IeeeAddress;
 use zigbee_types::Places;
 use zigbee_types::ShortAddress;

@@ -9,11 +9,11 @@ use Rattle.zigbee_types.specs.Addresses.{short, ieee}
 use Rattle.zigbee_types.specs.Statuses.{SUCCESS}
 use Rattle.zigbee_types.specs.declared.IeeeAddress.{IeeeAddress}
 use Rattle.zigbee_types.specs.declared.ShortAddress.{ShortAddress}
-use Rattle.apl_descriptors.specs.NodeDescriptor.{nodeDescriptor}
-use Rattle.apl_descriptors.specs.PowerDescriptor.{powerDescriptor}
-use Rattle.apl_descriptors.specs.SimpleDescriptor.{Endpoint, simpleWritten}
-use Rattle.apl_descriptors.specs.declared.descriptor.NodeDescriptorConfig.{NodeDescriptorConfig}
-use Rattle.apl_descriptors.specs.declared.descriptor.PowerDescriptorConfig.{PowerDescriptorConfig}
+use Rattle.node_descriptor.specs.NodeDescriptor.{nodeDescriptor}
+use Rattle.node_power_descriptor.specs.PowerDescriptor.{powerDescriptor}
+use Rattle.simple_descriptor.specs.SimpleDescriptor.{Endpoint, simpleWritten}
+use Rattle.node_descriptor.specs.declared.descriptor.NodeDescriptorConfig.{NodeDescriptorConfig}
+use Rattle.node_power_descriptor.specs.declared.descriptor.PowerDescriptorConfig.{PowerDescriptorConfig}
 
 -- most replies begin so: seq, status, the address of interest
 unfoldable pub header : ℕ → ℕ → ShortAddress → List Field

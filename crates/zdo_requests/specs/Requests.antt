@@ -6,9 +6,9 @@ use mathlib.Core.List.{List, [], _∷_}
 use lib.Dec.{eqb}
 use Rattle.zigbee_types.specs.Outcome.{Outcome, answer, refusal, mapped, needing}
 use Rattle.zigbee_types.specs.Bytes.{numberAt, bitAt}
-use Rattle.zigbee_types.specs.Layout.{Field, byte, laid, fieldOf, parsed, counted, behind}
+use Rattle.zigbee_types.specs.Layout.{Field, byte, laid, fieldOf, parsed, listsIn}
 use Rattle.zigbee_types.specs.Addresses.{short, ieeeOf, shortOf, groupOf}
-use Rattle.zigbee_types.specs.declared.Places.{Places}
+use Rattle.zigbee_types.specs.declared.ClusterLists.{ClusterLists}
 use Rattle.zigbee_types.specs.declared.ShortAddress.{ShortAddress}
 use Rattle.aps_binding.specs.Entry.{GROUP, DEVICE, groupBinding, deviceBinding}
 use Rattle.aps_binding.specs.declared.binding.Binding.{Binding}
@@ -50,23 +50,20 @@ simpleDescReqIn =
     parsed (1 ∷ 2 ∷ 1 ∷ []) (λ field. record { seq = field 0; «nwk_addr_of_interest» = shortOf (field 1); endpoint = field 2 })
 
 -- a match request's first fields, then its lists
-unfoldable pub matchReqOf : (ℕ → ℕ) → Places → Places → MatchDescReq
-matchReqOf field inputs outputs =
+unfoldable pub matchReqOf : (ℕ → ℕ) → ClusterLists → MatchDescReq
+matchReqOf field lists =
     record {
       seq = field 0;
       «nwk_addr_of_interest» = shortOf (field 1);
       «profile_id» = field 2;
-      «input_clusters» = inputs;
-      «output_clusters» = outputs;
+      «input_clusters» = lists .«input_clusters»;
+      «output_clusters» = lists .«output_clusters»;
     }
 
 -- 2.4.3.1.7: seq, short address, profile; then inputs, counted at byte 5, and outputs behind them, two bytes for each
 -- cluster; refusal 3 where the payload ends before the outputs do
 unfoldable pub matchDescReqIn : List ℕ → Outcome MatchDescReq
-matchDescReqIn payload =
-    let inputs = counted payload 5 in
-    let outputs = counted payload (behind 2 inputs) in
-    needing (behind 2 outputs) payload (matchReqOf (fieldOf (1 ∷ 2 ∷ 2 ∷ []) payload) inputs outputs)
+matchDescReqIn payload = mapped (matchReqOf (fieldOf (1 ∷ 2 ∷ 2 ∷ []) payload)) (listsIn payload 5)
 
 -- a bind request's first fields, then its destination
 unfoldable pub bindReqOf : (ℕ → ℕ) → BindReqDestination → BindReq

@@ -1,5 +1,10 @@
 pub mod Numbers
 pub mod Fields
 pub mod Layouts
+pub mod Counted
 pub mod Runs
+pub mod Entries
+pub mod Outcomes
+pub mod Bits
+pub mod Named
 pub mod OneOutcome

@@ -3,16 +3,17 @@
 use Prim.Native.Nat.{ℕ, _+_, _≤_, _<_}
 use native.Mathlib.Omega.{arith}
 use mathlib.Core.Path.{_≡_, refl}
-use mathlib.Core.List.{List, [], _∷_, _++_}
-use lib.ListN.{length, getD, drop}
+use mathlib.Core.List.{List, [], _∷_, _++_, append-assoc, append-nil}
+use lib.ListN.{length, getD, drop, length-append}
 use lib.Seq.{sets, sets-eq}
 use borrow.Author.Tests.{le-leb, lt-leb}
 use Rattle.zigbee_types.specs.Outcome.{answer, refusal, needing, mapped, fitted, written, Wrote}
 use Rattle.zigbee_types.specs.Bytes.{FieldRead, FieldPut}
-use Rattle.zigbee_types.specs.Layout.{Field, laid, size, fieldsAt, parsed}
+use Rattle.zigbee_types.specs.Layout.{Field, laid, FieldsPut, size, fieldsAt, parsed}
 use Rattle.zigbee_types.specs.FieldLaws.{widths}
-use Rattle.zigbee_types.proofs.Fields.{sets-behind}
+use Rattle.zigbee_types.proofs.Fields.{sets-append}
 use Rattle.zigbee_types.proofs.Layouts.{laid-counted}
+use Rattle.zigbee_types.proofs.Numbers.{le-counted}
 
 -- ---- reading
 
@@ -48,40 +49,67 @@ run-short ws bytes make h = rw (lt-leb _ _ h)
 
 -- ---- putting
 
--- fields were put one behind the other: the place behind them, and the buffer with them in it
-pub record RunPut (fs : List Field) (before : List ℕ) (at next : ℕ) (after : List ℕ) : Type 0 where
-  pub moved : next ≡ at + size (widths fs)
-  pub left : after ≡ sets before at (laid fs)
+-- the bytes of two runs are those of the first, then those of the second
+pub laid-append : (fs gs : List Field) → laid (fs ++ gs) ≡ laid fs ++ laid gs
+unfolding laid
+laid-append [] gs = refl
+laid-append (f ∷ fs) gs = rw (laid-append fs gs, append-assoc)
 
 -- no fields leave the buffer as it was
-pub run-put-none : {s : List ℕ} {at : ℕ} → RunPut [] s at at s
-unfolding laid size
+pub run-put-none : {s : List ℕ} {at : ℕ} → FieldsPut [] s at at s
+unfolding laid
 run-put-none = record { moved = omega arith; left = refl }
+
+-- one field is a run
+pub run-put-one : {w x at n : ℕ} {s t : List ℕ} → FieldPut w x s at n t → FieldsPut (record { width = w; value = x } ∷ []) s at n t
+unfolding laid
+run-put-one {w} {x} p = record { moved = rw (append-nil, le-counted) (p .moved); left = rw append-nil (p .left) }
+
+-- a run and the run behind it
+pub run-put-both :
+    {at m n : ℕ} {fs gs : List Field} {s t u : List ℕ} → FieldsPut fs s at m t → FieldsPut gs t m n u → FieldsPut (fs ++ gs) s at n u
+run-put-both {at} {m} {n} {fs} {gs} {s} p q =
+    record {
+      moved = rw (laid-append, length-append) (omega (arith, p .moved, q .moved));
+      left = rw (q .left, p .left, p .moved, laid-append, sets-append);
+    }
 
 -- a field and the run behind it
 pub run-put-more :
     {w x at m n : ℕ} {fs : List Field} {s t u : List ℕ}
     → FieldPut w x s at m t
-    → RunPut fs t m n u
-    → RunPut (record { width = w; value = x } ∷ fs) s at n u
-unfolding laid size
-run-put-more p q =
-    record {
-      moved = omega (arith, p .moved, q .moved);
-      left = rw (q .left, p .left, p .moved, sets-behind);
-    }
+    → FieldsPut fs t m n u
+    → FieldsPut (record { width = w; value = x } ∷ fs) s at n u
+run-put-more p q = run-put-both (run-put-one p) q
+
+-- the same, where the number that was put is told by an equation
+pub run-put-told :
+    {w x y at m n : ℕ} {fs : List Field} {s t u : List ℕ}
+    → FieldPut w x s at m t
+    → x ≡ y
+    → FieldsPut fs t m n u
+    → FieldsPut (record { width = w; value = y } ∷ fs) s at n u
+run-put-told p e q = rw (← e) (run-put-more p q)
+
+-- a run and one field behind it
+pub run-put-last :
+    {w x at m n : ℕ} {fs : List Field} {s t u : List ℕ}
+    → FieldsPut fs s at m t
+    → FieldPut w x t m n u
+    → FieldsPut (fs ++ (record { width = w; value = x } ∷ [])) s at n u
+run-put-last p q = run-put-both p (run-put-one q)
 
 -- so the fields are written, where there is room for them
 pub run-writes :
     {fs : List Field} {s t : List ℕ} {n : ℕ}
-    → RunPut fs s 0 n t
+    → FieldsPut fs s 0 n t
     → size (widths fs) ≤ length s
     → Wrote (answer (laid fs)) s (answer n) t
 unfolding mapped fitted written
 run-writes {fs} {s} {t} {n} p h =
     let counted : 0 + length (laid fs) ≡ length (laid fs) = omega arith in
     let room : length (laid fs) ≤ length s = rw (laid-counted fs) h in
-    let told : n ≡ length (laid fs) = omega (arith, p .moved, laid-counted fs) in
+    let told : n ≡ length (laid fs) = omega (arith, p .moved) in
     let behind : sets s 0 (laid fs) ≡ laid fs ++ drop (length (laid fs)) s = rw counted at (sets-eq (laid fs) s 0 (omega arith)) in
     record { said = rw (le-leb _ _ room, told); left = rw (le-leb _ _ room, p .left) behind }
 

@@ -1,8 +1,10 @@
 pub mod Lists
 pub mod Outcome
 pub mod Refusals
+pub mod Answers
 pub mod Bytes
 pub mod Layout
+pub mod Named
 pub mod Addresses
 pub mod Statuses
 pub mod FieldLaws

@@ -3,7 +3,7 @@
 ghost use mathlib.Core.Path.{_≡_};
 ghost use Prim.Native.Nat.{_+_, _*_, _≤_};
 ghost use lib.ListN.{length};
-ghost use Rattle.zigbee_types.specs.Bytes.{FieldRead, FieldPut};
+ghost use Rattle.zigbee_types.specs.Bytes.{bitAt, FieldRead, FieldPut};
 
 // A field of one byte that was read, and the place behind it.
 pub struct ReadU8 {
@@ -134,4 +134,14 @@ pub fn write_u64(out: &mut [u8], at: usize, x: u64) -> usize
 {
     let middle = write_u32(out, at, (x % 4294967296) as u32);
     write_u32(out, middle, (x / 4294967296) as u32)
+}
+
+// Whether bit i of a number is set, counted from the lowest, 0.
+pub fn bit_at(i: u8, x: u16) -> bool
+    ensures { λ r. ⌜ r ≡ bitAt i x ⌝ }
+{
+    if 16 <= i {
+        return false;
+    }
+    (x & (1 << i)) != 0
 }

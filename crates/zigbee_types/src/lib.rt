@@ -1,6 +1,7 @@
 // What every layer shares: addresses, the places of a list, and refusals. (The Rust's crate of this name is not shown. Its users
 // write `IeeeAddress`; the other names are added.)
 pub mod byte;
+pub mod lists;
 
 ghost use mathlib.Core.Path.{_≡_};
 ghost use Rattle.zigbee_types.specs.Refusals.{refusalNumber};
@@ -18,6 +19,24 @@ pub struct GroupAddress(pub u16);
 pub struct Places {
     pub start: usize,
     pub count: usize,
+}
+
+// Two lists of clusters, the second behind the first, as places in the bytes that they stand in.
+pub struct ClusterLists {
+    pub input_clusters: Places,
+    pub output_clusters: Places,
+}
+
+// Two lists of clusters that were read, or why none were.
+pub enum ClusterListsRead {
+    Lists(ClusterLists),
+    Refused(Refusal),
+}
+
+// How many bytes were written, or why none were.
+pub enum Written {
+    Length(usize),
+    Refused(Refusal),
 }
 
 // Why a call was refused (document 01, "Refusal numbers").

@@ -8,9 +8,11 @@ use std::path::Path;
 use super::Part;
 
 /// The crates whose definitions the equations cite.
-const CITED: [&str; 7] = [
+const CITED: [&str; 9] = [
     "zigbee_types",
-    "apl_descriptors",
+    "node_descriptor",
+    "node_power_descriptor",
+    "simple_descriptor",
     "aps_binding",
     "zdo_requests",
     "zdo_replies",

@@ -1,0 +1,52 @@
+// Printing, to the standard output.
+use libc::STDOUT_FILENO;
+use zigbee_types::Refusal;
+use zigbee_types::Written;
+
+// Characters as they are.
+pub(crate) fn text(characters: &[u8]) {
+    io::write_all(STDOUT_FILENO, characters);
+}
+
+// A number of so many hexadecimal digits, with a space before it.
+pub(crate) fn hex(n: u64, digits: usize) {
+    text(b" ");
+    io::print_hex(STDOUT_FILENO, n, digits);
+}
+
+// A number in decimal, with a space before it.
+pub(crate) fn decimal(n: usize) {
+    text(b" ");
+    io::print_decimal(STDOUT_FILENO, n as u64);
+}
+
+// A byte in hexadecimal, with a space before it.
+pub(crate) fn byte(byte: u8) {
+    hex(byte as u64, 2);
+}
+
+// Bytes in hexadecimal, so many from the front, with a space before each.
+pub(crate) fn bytes(bytes: &[u8], count: usize) {
+    let mut i: usize = 0;
+    while i < bytes.len() {
+        if count <= i {
+            return;
+        }
+        byte(bytes[i]);
+        i += 1;
+    }
+}
+
+// A refusal: `R` and its number, with a space before them.
+pub(crate) fn refusal(why: Refusal) {
+    text(b" R");
+    io::print_decimal(STDOUT_FILENO, why.number() as u64);
+}
+
+// What a writer wrote, or why it wrote nothing.
+pub(crate) fn written(written: Written, buffer: &[u8]) {
+    match written {
+        Written::Length(count) => bytes(buffer, count),
+        Written::Refused(why) => refusal(why),
+    }
+}

@@ -1,0 +1,53 @@
+-- Each answer that is an enum comes back from what it says. Assumes nothing.
+use mathlib.Core.Path.{_≡_, refl}
+use Rattle.zigbee_types.specs.Answers.{writtenSays, listsSays}
+use Rattle.zigbee_types.specs.declared.Written.{Written}
+use Rattle.zigbee_types.specs.declared.Written.the-variants as written
+use Rattle.zigbee_types.specs.declared.ClusterListsRead.{ClusterListsRead}
+use Rattle.zigbee_types.specs.declared.ClusterListsRead.the-variants as lists
+use Rattle.zigbee_types.proofs.OneOutcome.{from, determined, refused-back}
+use Rattle.node_descriptor.specs.NodeDescriptor.{nodeSays}
+use Rattle.node_descriptor.specs.declared.NodeDescriptorRead.{NodeDescriptorRead}
+use Rattle.node_descriptor.specs.declared.NodeDescriptorRead.the-variants as node
+use Rattle.node_power_descriptor.specs.PowerDescriptor.{powerSays}
+use Rattle.node_power_descriptor.specs.declared.NodePowerDescriptorRead.{NodePowerDescriptorRead}
+use Rattle.node_power_descriptor.specs.declared.NodePowerDescriptorRead.the-variants as power
+use Rattle.simple_descriptor.specs.SimpleDescriptor.{simpleSays}
+use Rattle.simple_descriptor.specs.declared.SimpleDescriptorRead.{SimpleDescriptorRead}
+use Rattle.simple_descriptor.specs.declared.SimpleDescriptorRead.the-variants as simple
+use Rattle.demands.specs.OneAnswer.{OneAnswer}
+
+written-back : (w : Written) → from written.Length written.Refused (writtenSays w) ≡ w
+unfolding writtenSays
+written-back (written.Length n) = refl
+written-back (written.Refused why) = refused-back written.Refused why
+
+lists-back : (l : ClusterListsRead) → from lists.Lists lists.Refused (listsSays l) ≡ l
+unfolding listsSays
+lists-back (lists.Lists l) = refl
+lists-back (lists.Refused why) = refused-back lists.Refused why
+
+node-back : (d : NodeDescriptorRead) → from node.Descriptor node.Refused (nodeSays d) ≡ d
+unfolding nodeSays
+node-back (node.Descriptor d) = refl
+node-back (node.Refused why) = refused-back node.Refused why
+
+power-back : (d : NodePowerDescriptorRead) → from power.Descriptor power.Refused (powerSays d) ≡ d
+unfolding powerSays
+power-back (power.Descriptor d) = refl
+power-back (power.Refused why) = refused-back power.Refused why
+
+simple-back : (d : SimpleDescriptorRead) → from simple.Descriptor simple.Refused (simpleSays d) ≡ d
+unfolding simpleSays
+simple-back (simple.Descriptor d) = refl
+simple-back (simple.Refused why) = refused-back simple.Refused why
+
+pub one-answer : OneAnswer
+one-answer =
+    record {
+      written = determined writtenSays written.Length written.Refused written-back;
+      lists = determined listsSays lists.Lists lists.Refused lists-back;
+      node = determined nodeSays node.Descriptor node.Refused node-back;
+      power = determined powerSays power.Descriptor power.Refused power-back;
+      simple = determined simpleSays simple.Descriptor simple.Refused simple-back;
+    }

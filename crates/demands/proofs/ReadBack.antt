@@ -1,0 +1,93 @@
+-- A descriptor that was written reads back with its fields cut to their widths. Assumes nothing.
+use Prim.Native.Nat.{ℕ, _%_, _≤_}
+use native.Mathlib.Omega.{arith}
+use mathlib.Core.Path.{_≡_}
+use mathlib.Core.Bool.{cond}
+use mathlib.Core.List.{List, [], _++_, map, append-assoc}
+use lib.ListN.{length}
+use lib.Dec.{leb}
+use borrow.Author.Tests.{leb-true}
+use Rattle.zigbee_types.specs.Outcome.{answer, refusal, andThen, mapped}
+use Rattle.zigbee_types.specs.Layout.{laid, cut, size, fieldsAt, listed}
+use Rattle.zigbee_types.specs.FieldLaws.{ListsAt}
+use Rattle.zigbee_types.proofs.Layouts.{laid-counted, laid-back, parses, lists-back}
+use Rattle.zigbee_types.proofs.Runs.{laid-append}
+use Rattle.zigbee_types.proofs.Outcomes.{granted, mapped-granted, wrote-bytes, wrote-answer}
+use Rattle.node_descriptor.specs.NodeDescriptor.{nodeByte0, nodeByte1, nodeDescriptor, nodeWidths, nodeDescriptorIn, nodeFields}
+use Rattle.node_descriptor.specs.declared.descriptor.NodeDescriptorConfig.{NodeDescriptorConfig}
+use Rattle.node_descriptor.proofs.Bits.{node-bits}
+use Rattle.node_power_descriptor.specs.PowerDescriptor.{sourceBits, powerByte0, powerByte1, powerDescriptor, powerWidths, powerDescriptorIn, powerFields, usable}
+use Rattle.node_power_descriptor.specs.declared.descriptor.PowerDescriptorConfig.{PowerDescriptorConfig}
+use Rattle.node_power_descriptor.proofs.Bits.{power-bits}
+use Rattle.simple_descriptor.specs.SimpleDescriptor.{Endpoint, simpleHeader, simpleDescriptor, clusterCount, simpleWritten, simpleWidths, simpleOf, simpleDescriptorIn, simpleFields}
+use Rattle.demands.specs.ReadBack.{cutNode, NodeReadsBack, cutPower, PowerReadsBack, cutEndpoint, SimpleReadsBack}
+use Rattle.demands.proofs.Frames.{one-layout}
+
+-- ---- node
+
+-- whatever stands behind it
+pub node-back : (n : NodeDescriptorConfig) (rest : List ℕ) → mapped nodeFields (nodeDescriptorIn (laid (nodeDescriptor n) ++ rest)) ≡ answer (cutNode n)
+unfolding mapped nodeDescriptorIn nodeDescriptor cut cutNode
+node-back n rest =
+    let bits = node-bits n in
+    let whole0 : nodeByte0 n % 256 ≡ nodeByte0 n = omega (arith, bits .above) in
+    let whole1 : nodeByte1 n % 256 ≡ nodeByte1 n = omega (arith, bits .band) in
+    rw (parses nodeWidths _ (nodeDescriptor n) rest (one-layout .node n), whole0, whole1, bits .type, bits .complex, bits .user, bits .band)
+
+pub node-reads-back : NodeReadsBack
+node-reads-back n before after told w = rw (wrote-bytes w .left) (node-back n _)
+
+-- ---- power
+
+-- whatever stands behind it
+pub power-back :
+    (p : PowerDescriptorConfig) (rest : List ℕ)
+    → mapped powerFields (powerDescriptorIn (laid (powerDescriptor p) ++ rest))
+    ≡ cond (usable (p .«available_power_sources» % 16) (sourceBits (p .«current_power_source»))) (answer (cutPower p)) (refusal 3)
+unfolding andThen powerDescriptorIn powerDescriptor cut cutPower
+power-back p rest =
+    let bits = power-bits p in
+    let whole0 : powerByte0 p % 256 ≡ powerByte0 p = omega (arith, bits .sources) in
+    let whole1 : powerByte1 p % 256 ≡ powerByte1 p = omega (arith, bits .level) in
+    rw (parses powerWidths _ (powerDescriptor p) rest (one-layout .power p), whole0, whole1, mapped-granted, bits .mode, bits .sources, bits .source, bits .level)
+
+pub power-reads-back : PowerReadsBack
+power-reads-back p before after told w = rw (wrote-bytes w .left) (power-back p _)
+
+-- ---- simple
+
+-- where the first fields and the lists read back, the descriptor does
+simple-read :
+    (e : Endpoint) (bytes : List ℕ)
+    → fieldsAt simpleWidths bytes 0 ≡ map cut (simpleHeader e)
+    → ListsAt bytes 6 (e .«input_clusters») (e .«output_clusters»)
+    → mapped (simpleFields bytes) (simpleDescriptorIn bytes) ≡ answer (cutEndpoint e)
+unfolding mapped simpleHeader cut simpleOf simpleDescriptorIn simpleFields cutEndpoint
+simple-read e bytes fields lists =
+    let version : e .«device_version» % 16 % 256 % 16 ≡ e .«device_version» % 16 = omega arith in
+    rw (lists .places, fields, lists .first, lists .second, version)
+
+-- whatever stands behind it
+pub simple-back :
+    (e : Endpoint) (rest : List ℕ)
+    → clusterCount e ≤ 28
+    → mapped (simpleFields (laid (simpleDescriptor e) ++ rest)) (simpleDescriptorIn (laid (simpleDescriptor e) ++ rest)) ≡ answer (cutEndpoint e)
+unfolding simpleDescriptor clusterCount simpleWidths size
+simple-back e rest few =
+    let header : List ℕ = laid (simpleHeader e) in
+    let inputs : List ℕ = laid (listed 2 (e .«input_clusters»)) in
+    let outputs : List ℕ = laid (listed 2 (e .«output_clusters»)) in
+    let long : length header ≡ 6 = rw (laid-counted, one-layout .simple e) in
+    let fields : fieldsAt simpleWidths (header ++ inputs ++ outputs ++ rest) 0 ≡ map cut (simpleHeader e) =
+    rw (← one-layout .simple e, append-assoc, append-assoc) (laid-back [] (inputs ++ (outputs ++ rest)) (simpleHeader e)) in
+    let lists : ListsAt (header ++ inputs ++ outputs ++ rest) 6 (e .«input_clusters») (e .«output_clusters») =
+    rw long at (lists-back header (e .«input_clusters») (e .«output_clusters») rest (omega arith) (omega arith)) in
+    rw (laid-append, laid-append) (simple-read e (header ++ inputs ++ outputs ++ rest) fields lists)
+
+pub simple-reads-back : SimpleReadsBack
+unfolding simpleWritten
+simple-reads-back e before after told w =
+    let (bytes, came, stands) = wrote-answer (simpleWritten e) w in
+    let (few, same) = granted (leb (clusterCount e) 28) (answer (laid (simpleDescriptor e))) 4 came in
+    let whole : bytes ≡ laid (simpleDescriptor e) = cc in
+    rw (stands .left, whole) (simple-back e _ (leb-true (clusterCount e) 28 few))

@@ -1,0 +1,3 @@
+pub mod NodeDescriptor
+pub mod Flags
+pub mod Bits

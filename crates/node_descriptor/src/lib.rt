@@ -1,0 +1,341 @@
+// The node descriptor as it is read (001; 2.3.2.3).
+pub mod descriptor;
+
+use zigbee_types::Refusal;
+use zigbee_types::byte::bit_at;
+use zigbee_types::byte::read_u8;
+use zigbee_types::byte::read_u16;
+ghost use mathlib.Core.Path.{_≡_};
+ghost use Prim.Native.Nat.{_%_};
+ghost use Rattle.zigbee_types.specs.Bytes.{bitAt};
+ghost use Rattle.node_descriptor.specs.NodeDescriptor.{typeNumber, typeBits, logicalType, nodeDescriptorIn, nodeSays, nodeFields, stackRevision};
+ghost use Rattle.node_descriptor.specs.Flags.{frequencyBandFlag, macCapabilityFlag, serverMaskFlag, descriptorCapabilityFlag};
+
+pub(crate) const NODE_DESCRIPTOR_SIZE: usize = 13;
+
+// Logical type field (2.3.2.3.1): device type of the Zigbee node.
+pub enum LogicalType {
+    Coordinator,
+    Router,
+    EndDevice,
+    Reserved(u8),
+}
+
+// The three bits of the logical type field (2.3.2.3.1).
+fn type_bits(x: u8) -> u8
+    ensures { λ r. ⌜ r ≡ x % 8 ⌝ }
+{
+    x & 0b111
+}
+
+impl LogicalType {
+    // The three bits that are written for a type (2.3.2.3.1).
+    pub(crate) fn bits(self) -> u8
+        ensures { λ r. ⌜ r ≡ typeBits self ⌝ }
+    {
+        type_bits(self.number())
+    }
+
+    // The number of a name, or the one that is reserved.
+    fn number(self) -> u8
+        ensures { λ r. ⌜ r ≡ typeNumber self ⌝ }
+    {
+        match self {
+            LogicalType::Coordinator => 0b000,
+            LogicalType::Router => 0b001,
+            LogicalType::EndDevice => 0b010,
+            LogicalType::Reserved(v) => v,
+        }
+    }
+
+    // The type that a number names (2.3.2.3.1).
+    fn from_bits(bits: u8) -> LogicalType
+        ensures { λ r. ⌜ r ≡ logicalType bits ⌝ }
+    {
+        match bits {
+            0b000 => LogicalType::Coordinator,
+            0b001 => LogicalType::Router,
+            0b010 => LogicalType::EndDevice,
+            _ => LogicalType::Reserved(bits),
+        }
+    }
+}
+
+// The thirteen bytes of a node descriptor, by the fields that are sent: bytes 0 and 1 share several, the others are one
+// each. (The Rust keeps a slice of the bytes.)
+pub struct NodeDescriptor {
+    pub byte0: u8,
+    pub byte1: u8,
+    pub mac_capability_flags: u8,
+    pub manufacturer_code: u16,
+    pub maximum_buffer_size: u8,
+    pub maximum_incoming_transfer_size: u16,
+    pub server_mask: u16,
+    pub maximum_outgoing_transfer_size: u16,
+    pub descriptor_capability_field: u8,
+}
+
+// A node descriptor that was read, or why none was.
+pub enum NodeDescriptorRead {
+    Descriptor(NodeDescriptor),
+    Refused(Refusal),
+}
+
+impl NodeDescriptor {
+    // Reads the descriptor at the front of bytes: thirteen, field by field (2.3.2.3).
+    pub fn try_read(bytes: &[u8]) -> NodeDescriptorRead
+        ensures { λ r. ⌜ nodeSays r ≡ nodeDescriptorIn (now (bytes .entry)) ⌝ }
+    {
+        if bytes.len() < NODE_DESCRIPTOR_SIZE {
+            return NodeDescriptorRead::Refused(Refusal::Malformed);
+        }
+        let byte0 = read_u8(bytes, 0);
+        let byte1 = read_u8(bytes, byte0.next);
+        let mac_capability_flags = read_u8(bytes, byte1.next);
+        let manufacturer_code = read_u16(bytes, mac_capability_flags.next);
+        let maximum_buffer_size = read_u8(bytes, manufacturer_code.next);
+        let maximum_incoming_transfer_size = read_u16(bytes, maximum_buffer_size.next);
+        let server_mask = read_u16(bytes, maximum_incoming_transfer_size.next);
+        let maximum_outgoing_transfer_size = read_u16(bytes, server_mask.next);
+        let descriptor_capability_field = read_u8(bytes, maximum_outgoing_transfer_size.next);
+        NodeDescriptorRead::Descriptor(NodeDescriptor {
+            byte0: byte0.value,
+            byte1: byte1.value,
+            mac_capability_flags: mac_capability_flags.value,
+            manufacturer_code: manufacturer_code.value,
+            maximum_buffer_size: maximum_buffer_size.value,
+            maximum_incoming_transfer_size: maximum_incoming_transfer_size.value,
+            server_mask: server_mask.value,
+            maximum_outgoing_transfer_size: maximum_outgoing_transfer_size.value,
+            descriptor_capability_field: descriptor_capability_field.value,
+        })
+    }
+
+    // Device type of the node (2.3.2.3.1).
+    pub fn logical_type(self) -> LogicalType
+        ensures { λ r. ⌜ r ≡ nodeFields self .«logical_type» ⌝ }
+    {
+        LogicalType::from_bits(type_bits(self.byte0))
+    }
+
+    // Whether the node has a complex descriptor (2.3.2.3.2).
+    pub fn complex_descriptor_available(self) -> bool
+        ensures { λ r. ⌜ r ≡ nodeFields self .«complex_descriptor_available» ⌝ }
+    {
+        bit_at(3, self.byte0 as u16)
+    }
+
+    // Whether the node has a user descriptor (2.3.2.3.3).
+    pub fn user_descriptor_available(self) -> bool
+        ensures { λ r. ⌜ r ≡ nodeFields self .«user_descriptor_available» ⌝ }
+    {
+        bit_at(4, self.byte0 as u16)
+    }
+
+    // The bands of the node's radio (2.3.2.3.5).
+    pub fn frequency_bands(self) -> FrequencyBands
+        ensures { λ r. ⌜ r ≡ record { 0 = nodeFields self .«frequency_band» } ⌝ }
+    {
+        FrequencyBands(self.byte1 >> 3)
+    }
+
+    // What the MAC sub-layer can do (2.3.2.3.6).
+    pub fn mac_capabilities(self) -> MacCapabilities
+        ensures { λ r. ⌜ r ≡ record { 0 = nodeFields self .«mac_capability_flags» } ⌝ }
+    {
+        MacCapabilities(self.mac_capability_flags)
+    }
+
+    // Who made the node.
+    pub fn manufacturer_code(self) -> u16
+        ensures { λ r. ⌜ r ≡ nodeFields self .«manufacturer_code» ⌝ }
+    {
+        self.manufacturer_code
+    }
+
+    pub fn maximum_buffer_size(self) -> u8
+        ensures { λ r. ⌜ r ≡ nodeFields self .«maximum_buffer_size» ⌝ }
+    {
+        self.maximum_buffer_size
+    }
+
+    pub fn maximum_incoming_transfer_size(self) -> u16
+        ensures { λ r. ⌜ r ≡ nodeFields self .«maximum_incoming_transfer_size» ⌝ }
+    {
+        self.maximum_incoming_transfer_size
+    }
+
+    // Which servers of the system the node is, and the stack that it complies with (2.3.2.3.10).
+    pub fn server_mask(self) -> ServerMask
+        ensures { λ r. ⌜ r ≡ record { 0 = nodeFields self .«server_mask» } ⌝ }
+    {
+        ServerMask(self.server_mask)
+    }
+
+    pub fn maximum_outgoing_transfer_size(self) -> u16
+        ensures { λ r. ⌜ r ≡ nodeFields self .«maximum_outgoing_transfer_size» ⌝ }
+    {
+        self.maximum_outgoing_transfer_size
+    }
+
+    // What the node's descriptors can do.
+    pub fn descriptor_capabilities(self) -> DescriptorCapabilities
+        ensures { λ r. ⌜ r ≡ record { 0 = nodeFields self .«descriptor_capability_field» } ⌝ }
+    {
+        DescriptorCapabilities(self.descriptor_capability_field)
+    }
+}
+
+// Frequency band field (2.3.2.3.5): frequency bands supported by the underlying IEEE 802.15.4 radio(s).
+pub struct FrequencyBands(pub u8);
+
+pub enum FrequencyBandFlag {
+    // 868 - 868.6 MHz
+    Low = 0,
+    // 902 - 928 MHz
+    Mid = 2,
+    // 2400 - 2483.5 MHz
+    High = 3,
+    // European FSK sub-GHz bands: (863-876MHz and 915-921MHz)
+    EuropeanFSK = 4,
+}
+
+impl FrequencyBandFlag {
+    // The number of a flag's bit.
+    fn number(self) -> u8
+        ensures { λ r. ⌜ r ≡ frequencyBandFlag self ⌝ }
+    {
+        match self {
+            FrequencyBandFlag::Low => 0,
+            FrequencyBandFlag::Mid => 2,
+            FrequencyBandFlag::High => 3,
+            FrequencyBandFlag::EuropeanFSK => 4,
+        }
+    }
+}
+
+impl FrequencyBands {
+    // Whether a flag is set.
+    pub fn is_set(self, frequency_band_flag: FrequencyBandFlag) -> bool
+        ensures { λ r. ⌜ r ≡ bitAt (frequencyBandFlag «frequency_band_flag») (self .0) ⌝ }
+    {
+        bit_at(frequency_band_flag.number(), self.0 as u16)
+    }
+}
+
+// MAC capability flags field (2.3.2.3.6), as required by the IEEE 802.15.4-2015 MAC sub-layer.
+pub struct MacCapabilities(pub u8);
+
+pub enum MacCapabilityFlag {
+    // Set if this node is capable of becoming a PAN coordinator.
+    AlternatePanCoordinator = 0,
+    // Set if this node is a full function device (FFD), unset for a reduced function device (RFD).
+    DeviceType = 1,
+    // Set if the current power source is mains power.
+    PowerSource = 2,
+    // Set if the device does not disable its receiver to conserve power during idle periods.
+    ReceiverOnWhenIdle = 3,
+    // Set if the device supports the Zigbee security suite.
+    SecurityCapability = 6,
+    AllocateAddress = 7,
+}
+
+impl MacCapabilityFlag {
+    // The number of a flag's bit.
+    fn number(self) -> u8
+        ensures { λ r. ⌜ r ≡ macCapabilityFlag self ⌝ }
+    {
+        match self {
+            MacCapabilityFlag::AlternatePanCoordinator => 0,
+            MacCapabilityFlag::DeviceType => 1,
+            MacCapabilityFlag::PowerSource => 2,
+            MacCapabilityFlag::ReceiverOnWhenIdle => 3,
+            MacCapabilityFlag::SecurityCapability => 6,
+            MacCapabilityFlag::AllocateAddress => 7,
+        }
+    }
+}
+
+impl MacCapabilities {
+    // Whether a flag is set.
+    pub fn is_set(self, mac_capability_flag: MacCapabilityFlag) -> bool
+        ensures { λ r. ⌜ r ≡ bitAt (macCapabilityFlag «mac_capability_flag») (self .0) ⌝ }
+    {
+        bit_at(mac_capability_flag.number(), self.0 as u16)
+    }
+}
+
+// Server mask field (2.3.2.3.10).
+pub struct ServerMask(pub u16);
+
+pub enum ServerMaskFlag {
+    PrimaryTrustCenter = 0,
+    BackupTrustCenter = 1,
+    PrimaryBindingTableCache = 2,
+    BackupBindingTableCache = 3,
+    PrimaryDiscoveryCache = 4,
+    BackupDiscoveryCache = 5,
+    NetworkManager = 6,
+}
+
+impl ServerMaskFlag {
+    // The number of a flag's bit.
+    fn number(self) -> u8
+        ensures { λ r. ⌜ r ≡ serverMaskFlag self ⌝ }
+    {
+        match self {
+            ServerMaskFlag::PrimaryTrustCenter => 0,
+            ServerMaskFlag::BackupTrustCenter => 1,
+            ServerMaskFlag::PrimaryBindingTableCache => 2,
+            ServerMaskFlag::BackupBindingTableCache => 3,
+            ServerMaskFlag::PrimaryDiscoveryCache => 4,
+            ServerMaskFlag::BackupDiscoveryCache => 5,
+            ServerMaskFlag::NetworkManager => 6,
+        }
+    }
+}
+
+impl ServerMask {
+    // Whether a flag is set.
+    pub fn is_set(self, server_mask_flag: ServerMaskFlag) -> bool
+        ensures { λ r. ⌜ r ≡ bitAt (serverMaskFlag «server_mask_flag») (self .0) ⌝ }
+    {
+        bit_at(server_mask_flag.number(), self.0)
+    }
+
+    // The revision of the stack that the node complies with.
+    pub fn get_stack_compliance_revision(self) -> u8
+        ensures { λ r. ⌜ r ≡ stackRevision (self .0) ⌝ }
+    {
+        (self.0 >> 9) as u8
+    }
+}
+
+// Descriptor capability field.
+pub struct DescriptorCapabilities(pub u8);
+
+pub enum DescriptorCapabilityFlag {
+    ExtendedActiveEndpontListAvailable = 0,
+    ExtendedSimpleDescriptorListAvailable = 1,
+}
+
+impl DescriptorCapabilityFlag {
+    // The number of a flag's bit.
+    fn number(self) -> u8
+        ensures { λ r. ⌜ r ≡ descriptorCapabilityFlag self ⌝ }
+    {
+        match self {
+            DescriptorCapabilityFlag::ExtendedActiveEndpontListAvailable => 0,
+            DescriptorCapabilityFlag::ExtendedSimpleDescriptorListAvailable => 1,
+        }
+    }
+}
+
+impl DescriptorCapabilities {
+    // Whether a flag is set.
+    pub fn is_set(self, descriptor_capability_flag: DescriptorCapabilityFlag) -> bool
+        ensures { λ r. ⌜ r ≡ bitAt (descriptorCapabilityFlag «descriptor_capability_flag») (self .0) ⌝ }
+    {
+        bit_at(descriptor_capability_flag.number(), self.0 as u16)
+    }
+}

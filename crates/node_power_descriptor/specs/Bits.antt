@@ -1,0 +1,26 @@
+-- Where the fields that share a byte stand in it, and which bits a union of sources has, as statements. Terms of them stand in
+-- proofs/.
+use Prim.Native.Nat.{ℕ, _/_, _%_}
+use mathlib.Core.Path.{_≡_}
+use mathlib.Core.Bool.{_&&_}
+use mathlib.Core.List.{List}
+use lib.Dec.{ltb}
+use Rattle.zigbee_types.specs.Bytes.{bitAt}
+use Rattle.zigbee_types.specs.Lists.{any}
+use Rattle.node_power_descriptor.specs.PowerDescriptor.{modeBits, sourceBits, levelBits, powerByte0, powerByte1, sourceBitmap}
+use Rattle.node_power_descriptor.specs.declared.descriptor.PowerDescriptorConfig.{PowerDescriptorConfig}
+
+-- document 01, module 3: mode low and sources high in byte 0, source low and level high in byte 1
+pub record PowerBits (p : PowerDescriptorConfig) : Type 0 where
+  pub mode : powerByte0 p % 16 ≡ modeBits (p .«current_power_mode»)
+  pub sources : powerByte0 p / 16 ≡ p .«available_power_sources» % 16
+  pub source : powerByte1 p % 16 ≡ sourceBits (p .«current_power_source»)
+  pub level : powerByte1 p / 16 ≡ levelBits (p .«current_power_source_level»)
+
+-- of every power configuration
+abbrev pub PowerBitsStand : Type 0
+PowerBitsStand = (p : PowerDescriptorConfig) → PowerBits p
+
+-- document 01, module 3: a bit is set in the union of sources exactly if it is one of the low four and some source has it
+abbrev pub BitmapUnion : Type 0
+BitmapUnion = (i : ℕ) (xs : List ℕ) → bitAt i (sourceBitmap xs) ≡ (ltb i 4 && any (bitAt i) xs)

@@ -1,0 +1,2 @@
+pub mod PowerDescriptor
+pub mod Bits

@@ -1,0 +1,243 @@
+// The node power descriptor as it is read (002; 2.3.2.4).
+pub mod descriptor;
+
+use zigbee_types::Refusal;
+use zigbee_types::byte::read_u8;
+ghost use mathlib.Core.Path.{_≡_};
+ghost use Prim.Native.Nat.{_/_, _%_};
+ghost use Rattle.node_power_descriptor.specs.PowerDescriptor.{modeNumber, modeBits, currentPowerMode, sourceNumber, sourceBits, powerSource, levelNumber, levelBits, currentPowerSourceLevel, sourceBitmap, powerDescriptorIn, powerSays, powerFields, supports, usable};
+
+pub(crate) const NODE_POWER_DESCRIPTOR_SIZE: usize = 2;
+
+// Every field of the node power descriptor is 4 bits wide.
+const NIBBLE: u8 = 0b1111;
+
+// The low four bits.
+fn nibble(x: u8) -> u8
+    ensures { λ r. ⌜ r ≡ x % 16 ⌝ }
+{
+    x & NIBBLE
+}
+
+// The two bytes of a node power descriptor. (The Rust keeps a slice of them.)
+pub struct NodePowerDescriptor {
+    pub byte0: u8,
+    pub byte1: u8,
+}
+
+// A node power descriptor that was read, or why none was.
+pub enum NodePowerDescriptorRead {
+    Descriptor(NodePowerDescriptor),
+    Refused(Refusal),
+}
+
+impl NodePowerDescriptor {
+    // Reads the descriptor at the front of bytes: two, whose current source has a name and is available (2.3.2.4;
+    // document 01, module 3).
+    pub fn try_read(bytes: &[u8]) -> NodePowerDescriptorRead
+        ensures { λ r. ⌜ powerSays r ≡ powerDescriptorIn (now (bytes .entry)) ⌝ }
+    {
+        if bytes.len() < NODE_POWER_DESCRIPTOR_SIZE {
+            return NodePowerDescriptorRead::Refused(Refusal::Malformed);
+        }
+        let byte0 = read_u8(bytes, 0);
+        let byte1 = read_u8(bytes, byte0.next);
+        let descriptor = NodePowerDescriptor {
+            byte0: byte0.value,
+            byte1: byte1.value,
+        };
+        if !descriptor.is_usable() {
+            return NodePowerDescriptorRead::Refused(Refusal::Malformed);
+        }
+        NodePowerDescriptorRead::Descriptor(descriptor)
+    }
+
+    // Whether the current source has a name and is available.
+    fn is_usable(self) -> bool
+        ensures { λ r. ⌜ r ≡ usable (self .byte0 / 16) (self .byte1 % 16) ⌝ }
+    {
+        let current_power_source = self.current_power_source();
+        if let PowerSource::Reserved(_) = current_power_source {
+            return false;
+        }
+        self.supports(current_power_source)
+    }
+
+    // Sleep and power-saving mode (2.3.2.4.1).
+    pub fn current_power_mode(self) -> CurrentPowerMode
+        ensures { λ r. ⌜ r ≡ powerFields self .«current_power_mode» ⌝ }
+    {
+        CurrentPowerMode::from_bits(self.byte0 % 16)
+    }
+
+    // Whether the node declares a power source as available (2.3.2.4.2).
+    pub fn supports(self, power_source: PowerSource) -> bool
+        ensures { λ r. ⌜ r ≡ supports self «power_source» ⌝ }
+    {
+        (self.byte0 >> 4) & power_source.bits() != 0
+    }
+
+    // The power sources that the node declares as available, as the union of their bits (2.3.2.4.2).
+    pub fn available_power_sources(self) -> u8
+        ensures { λ r. ⌜ r ≡ powerFields self .«available_power_sources» ⌝ }
+    {
+        self.byte0 >> 4
+    }
+
+    // The source currently in use (2.3.2.4.3).
+    pub fn current_power_source(self) -> PowerSource
+        ensures { λ r. ⌜ r ≡ powerFields self .«current_power_source» ⌝ }
+    {
+        PowerSource::from_bits(self.byte1 % 16)
+    }
+
+    // Charge level of that source (2.3.2.4.4).
+    pub fn current_power_source_level(self) -> CurrentPowerSourceLevel
+        ensures { λ r. ⌜ r ≡ powerFields self .«current_power_source_level» ⌝ }
+    {
+        CurrentPowerSourceLevel::from_bits(self.byte1 >> 4)
+    }
+}
+
+// Current power mode field (2.3.2.4.1).
+pub enum CurrentPowerMode {
+    // Synchronized with the receiver-on-when-idle subfield of the node descriptor.
+    Synchronized,
+    // Comes on periodically as defined by the node power descriptor.
+    Periodically,
+    // Comes on when stimulated, e.g. by a user pressing a button.
+    Stimulated,
+    Reserved(u8),
+}
+
+impl CurrentPowerMode {
+    // The 4-bit field value.
+    pub fn bits(self) -> u8
+        ensures { λ r. ⌜ r ≡ modeBits self ⌝ }
+    {
+        nibble(self.number())
+    }
+
+    // The number of a name, or the one that is reserved.
+    fn number(self) -> u8
+        ensures { λ r. ⌜ r ≡ modeNumber self ⌝ }
+    {
+        match self {
+            CurrentPowerMode::Synchronized => 0b0000,
+            CurrentPowerMode::Periodically => 0b0001,
+            CurrentPowerMode::Stimulated => 0b0010,
+            CurrentPowerMode::Reserved(bits) => bits,
+        }
+    }
+
+    // The mode that a number names.
+    fn from_bits(bits: u8) -> CurrentPowerMode
+        ensures { λ r. ⌜ r ≡ currentPowerMode bits ⌝ }
+    {
+        match bits {
+            0b0000 => CurrentPowerMode::Synchronized,
+            0b0001 => CurrentPowerMode::Periodically,
+            0b0010 => CurrentPowerMode::Stimulated,
+            _ => CurrentPowerMode::Reserved(bits),
+        }
+    }
+}
+
+// A power source of the node, as its bit in the available power sources (2.3.2.4.2) and current power source (2.3.2.4.3)
+// fields, which share a bit assignment.
+pub enum PowerSource {
+    ConstantMainPower,
+    RechargeableBattery,
+    DisposableBattery,
+    Reserved(u8),
+}
+
+impl PowerSource {
+    // The 4-bit field value with this source's bit set.
+    pub fn bits(self) -> u8
+        ensures { λ r. ⌜ r ≡ sourceBits self ⌝ }
+    {
+        nibble(self.number())
+    }
+
+    // The number of a name, or the one that is reserved.
+    fn number(self) -> u8
+        ensures { λ r. ⌜ r ≡ sourceNumber self ⌝ }
+    {
+        match self {
+            PowerSource::ConstantMainPower => 0b0001,
+            PowerSource::RechargeableBattery => 0b0010,
+            PowerSource::DisposableBattery => 0b0100,
+            PowerSource::Reserved(bits) => bits,
+        }
+    }
+
+    // The source that a number names.
+    fn from_bits(bits: u8) -> PowerSource
+        ensures { λ r. ⌜ r ≡ powerSource bits ⌝ }
+    {
+        match bits {
+            0b0001 => PowerSource::ConstantMainPower,
+            0b0010 => PowerSource::RechargeableBattery,
+            0b0100 => PowerSource::DisposableBattery,
+            _ => PowerSource::Reserved(bits),
+        }
+    }
+
+    // The 4-bit field value covering every source in a list of their numbers (2.3.2.4.2).
+    pub fn bitmap(sources: &[u8]) -> u8
+        ensures { λ r. ⌜ r ≡ sourceBitmap (now (sources .entry)) ⌝ }
+    {
+        let mut bits: u8 = 0;
+        let mut i: usize = 0;
+        while i < sources.len() {
+            bits |= nibble(sources[i]);
+            i += 1;
+        }
+        bits
+    }
+}
+
+// Current power source level field (2.3.2.4.4).
+pub enum CurrentPowerSourceLevel {
+    Critical,
+    OneThird,
+    TwoThirds,
+    Full,
+    Reserved(u8),
+}
+
+impl CurrentPowerSourceLevel {
+    // The 4-bit field value.
+    pub fn bits(self) -> u8
+        ensures { λ r. ⌜ r ≡ levelBits self ⌝ }
+    {
+        nibble(self.number())
+    }
+
+    // The number of a name, or the one that is reserved.
+    fn number(self) -> u8
+        ensures { λ r. ⌜ r ≡ levelNumber self ⌝ }
+    {
+        match self {
+            CurrentPowerSourceLevel::Critical => 0b0000,
+            CurrentPowerSourceLevel::OneThird => 0b0100,
+            CurrentPowerSourceLevel::TwoThirds => 0b1000,
+            CurrentPowerSourceLevel::Full => 0b1100,
+            CurrentPowerSourceLevel::Reserved(bits) => bits,
+        }
+    }
+
+    // The level that a number names.
+    fn from_bits(bits: u8) -> CurrentPowerSourceLevel
+        ensures { λ r. ⌜ r ≡ currentPowerSourceLevel bits ⌝ }
+    {
+        match bits {
+            0b0000 => CurrentPowerSourceLevel::Critical,
+            0b0100 => CurrentPowerSourceLevel::OneThird,
+            0b1000 => CurrentPowerSourceLevel::TwoThirds,
+            0b1100 => CurrentPowerSourceLevel::Full,
+            _ => CurrentPowerSourceLevel::Reserved(bits),
+        }
+    }
+}
