@@ -115,7 +115,7 @@ impl NodeDescriptor {
     pub fn logical_type(self) -> LogicalType
         ensures { λ r. ⌜ r ≡ nodeFields self .«logical_type» ⌝ }
     {
-        LogicalType::from_bits(type_bits(self.byte0))
+        LogicalType::from_bits(self.byte0 % 8)
     }
 
     // Whether the node has a complex descriptor (2.3.2.3.2).

@@ -38,9 +38,7 @@ module _
   -- they are judged by their current source
   judged : cond b (answer (record { «byte0» = v; «byte1» = w })) (refusal 3) ≡ powerDescriptorIn bytes
   unfolding powerDescriptorIn powerWidths size andThen
-  judged =
-      rw
-      (e, ← run-parses made (run-read-more p (run-read-more q run-read-none)) h)
+  judged = rw (e, ← run-parses made (run-read-more p (run-read-more q run-read-none)) h)
 
   pub power-refused : not b ≡ true → powerSays (Refused Malformed) ≡ powerDescriptorIn bytes
   unfolding powerSays

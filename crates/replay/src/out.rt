@@ -1,5 +1,7 @@
 // Puts an answer together. Each function puts its part into a slice at a place, and answers the place behind it. What the slice
 // has no room for is left out.
+use crate::words;
+use zigbee_types::Written;
 ghost use Prim.Native.Nat.{_<_};
 
 // Puts one character.
@@ -67,6 +69,25 @@ pub(crate) fn bytes(out: &mut [u8], at: usize, bytes: &[u8]) -> usize {
     at
 }
 
+// Puts a flag, `0` or `1`.
+pub(crate) fn flag(out: &mut [u8], at: usize, flag: bool) -> usize {
+    if flag {
+        return byte(out, at, b'1');
+    }
+    byte(out, at, b'0')
+}
+
+// Puts flags, without spaces.
+pub(crate) fn flags(out: &mut [u8], at: usize, flags: &[bool]) -> usize {
+    let mut at = at;
+    let mut i: usize = 0;
+    while i < flags.len() {
+        at = flag(out, at, flags[i]);
+        i += 1;
+    }
+    at
+}
+
 // The character of a hexadecimal digit, a capital from ten on.
 fn hex_digit(digit: u8) -> u8
     requires { ⌜ digit < 16 ⌝ }
@@ -80,6 +101,30 @@ fn hex_digit(digit: u8) -> u8
 // Puts the answer of a writer: how many bytes it wrote, or the place behind them, and the buffer that it left.
 pub(crate) fn wrote(out: &mut [u8], at: usize, count: usize, buffer: &[u8]) -> usize {
     let at = decimal(out, at, count);
+    let at = byte(out, at, b' ');
+    bytes(out, at, buffer)
+}
+
+// Puts what a writer answered, and the buffer that it left. The word of the question says the buffer as it was.
+pub(crate) fn written(
+    out: &mut [u8],
+    at: usize,
+    answer: Written,
+    word: &[u8],
+    buffer: &[u8],
+) -> usize {
+    match answer {
+        Written::Length(count) => wrote(out, at, count, buffer),
+        Written::Refused(_) => refused(out, at, word, buffer),
+    }
+}
+
+// Puts `R`, and the buffer behind it where it is not as the word says any more.
+fn refused(out: &mut [u8], at: usize, word: &[u8], buffer: &[u8]) -> usize {
+    let at = byte(out, at, b'R');
+    if words::says(word, buffer) {
+        return at;
+    }
     let at = byte(out, at, b' ');
     bytes(out, at, buffer)
 }

@@ -2,10 +2,17 @@
 // of no kind.
 //
 // The kinds of arguments (oracle/README.md, "Lines"), each a letter:
-//     1, 2, 8   a number of so many bytes, two digits for each
-//     b         bytes
-//     d         a place or a count in decimal, of at most nine digits
+//     1, 2, 8      a number of so many bytes, two digits for each
+//     b            bytes
+//     c            clusters
+//     d            a place or a count in decimal, of at most nine digits
+//     e            an endpoint
+//     t, m, s, l   a named value: a logical type, a power mode, a power source, a level of one
+//     S            power sources
+//     N            a node
+//     P            a power
 // What reads a word takes any word: one of another kind gives some number, or some bytes.
+use crate::values;
 ghost use Prim.Native.Nat.{_≤_, _<_};
 ghost use lib.ListN.{length};
 
@@ -54,7 +61,13 @@ fn is_of(word: &[u8], kind: u8) -> bool {
         b'2' => is_hex(word, 4),
         b'8' => is_hex(word, 16),
         b'b' => is_bytes(word),
+        b'c' => is_clusters(word),
         b'd' => is_decimal(word),
+        b'e' => is_hex(word, 12),
+        b't' | b'm' | b's' | b'l' => is_named_value(word, kind),
+        b'S' => is_sources(word),
+        b'N' => is_node(word),
+        b'P' => is_power(word),
         _ => false,
     }
 }
@@ -79,6 +92,68 @@ fn is_bytes(word: &[u8]) -> bool {
         return false;
     }
     has_digits(word, 16)
+}
+
+// Whether a word says clusters: four digits for each, or `-` for none.
+fn is_clusters(word: &[u8]) -> bool {
+    if !is_bytes(word) {
+        return false;
+    }
+    if word.len() == 1 {
+        return true;
+    }
+    word.len() % 4 == 0
+}
+
+// Whether a word is a named value of the kind that has this letter.
+fn is_named_value(word: &[u8], kind: u8) -> bool {
+    if !is_hex(word, 4) {
+        return false;
+    }
+    values::is_value(u16_at(word, 0), kind)
+}
+
+// Whether a word says power sources: four digits for each, or `-` for none.
+fn is_sources(word: &[u8]) -> bool {
+    if !is_clusters(word) {
+        return false;
+    }
+    let mut i: usize = 0;
+    while i < word.len() / 4 {
+        if !values::is_value(u16_at(word, 2 * i), b's') {
+            return false;
+        }
+        i += 1;
+    }
+    true
+}
+
+// Whether a word says a node: 32 digits, a logical type in the first four, and the two flags behind it each 0 or 1.
+fn is_node(word: &[u8]) -> bool {
+    if !is_hex(word, 32) {
+        return false;
+    }
+    if !values::is_value(u16_at(word, 0), b't') {
+        return false;
+    }
+    if u8_at(word, 2) > 1 {
+        return false;
+    }
+    u8_at(word, 3) <= 1
+}
+
+// Whether a word says a power: a mode, a source and a level, four digits each.
+fn is_power(word: &[u8]) -> bool {
+    if !is_hex(word, 12) {
+        return false;
+    }
+    if !values::is_value(u16_at(word, 0), b'm') {
+        return false;
+    }
+    if !values::is_value(u16_at(word, 2), b's') {
+        return false;
+    }
+    values::is_value(u16_at(word, 4), b'l')
 }
 
 // Whether a word is a number in decimal, of at most nine digits, and without a zero in front that it does not need.
@@ -128,6 +203,16 @@ pub(crate) fn decimal_in(line: &[u8], word: usize) -> usize
     (value(word_of(line, word), 10) % 1000000000) as usize
 }
 
+// The number of one byte in a word of a line.
+pub(crate) fn u8_in(line: &[u8], word: usize) -> u8 {
+    u8_at(word_of(line, word), 0)
+}
+
+// The number of two bytes in a word of a line, or what stands for its named value.
+pub(crate) fn u16_in(line: &[u8], word: usize) -> u16 {
+    u16_at(word_of(line, word), 0)
+}
+
 // Puts the bytes in a word of a line at the front of a slice, as many as it has room for, and answers how many they are.
 pub(crate) fn bytes_in(line: &[u8], word: usize, space: &mut [u8]) -> usize
     ensures { λ r. ⌜ r ≤ length (now (space .exit)) ⌝ }
@@ -138,10 +223,71 @@ pub(crate) fn bytes_in(line: &[u8], word: usize, space: &mut [u8]) -> usize
         if digits.len() / 2 <= i {
             return i;
         }
-        space[i] = (digit(digits[2 * i]) << 4) | digit(digits[2 * i + 1]);
+        space[i] = u8_at(digits, i);
         i += 1;
     }
     i
+}
+
+// Puts the numbers of the named values in a word of a line, of names and of reserved values alike, at the front of a slice, as
+// many as it has room for, and answers how many they are.
+pub(crate) fn numbers_in(line: &[u8], word: usize, space: &mut [u8]) -> usize
+    ensures { λ r. ⌜ r ≤ length (now (space .exit)) ⌝ }
+{
+    let digits = word_of(line, word);
+    let mut i: usize = 0;
+    while i < space.len() {
+        if digits.len() / 4 <= i {
+            return i;
+        }
+        space[i] = u8_at(digits, 2 * i + 1);
+        i += 1;
+    }
+    i
+}
+
+// Puts the clusters in a word of a line at the front of a slice, as many as it has room for, and answers how many they are.
+pub(crate) fn clusters_in(line: &[u8], word: usize, clusters: &mut [u16]) -> usize
+    ensures { λ r. ⌜ r ≤ length (now (clusters .exit)) ⌝ }
+{
+    let digits = word_of(line, word);
+    let mut i: usize = 0;
+    while i < clusters.len() {
+        if digits.len() / 4 <= i {
+            return i;
+        }
+        clusters[i] = u16_at(digits, 2 * i);
+        i += 1;
+    }
+    i
+}
+
+// Whether a word says just these bytes, of which it has as many.
+pub(crate) fn says(word: &[u8], bytes: &[u8]) -> bool {
+    let mut i: usize = 0;
+    while i < bytes.len() {
+        if u8_at(word, i) != bytes[i] {
+            return false;
+        }
+        i += 1;
+    }
+    true
+}
+
+// The byte of a word that stands behind so many others, two digits each. Where the word has none there, this is 0.
+pub(crate) fn u8_at(word: &[u8], at: usize) -> u8 {
+    if word.len() / 2 <= at {
+        return 0;
+    }
+    (digit(word[2 * at]) << 4) | digit(word[2 * at + 1])
+}
+
+// The number of two bytes of a word that stands behind so many bytes, the high byte first.
+pub(crate) fn u16_at(word: &[u8], at: usize) -> u16 {
+    if word.len() / 2 <= at {
+        return 0;
+    }
+    ((u8_at(word, at) as u16) << 8) | (u8_at(word, at + 1) as u16)
 }
 
 // The number that the digits of a word say in base 10 or 16.
@@ -164,7 +310,7 @@ fn with_digit(number: u64, base: u8, last: u8) -> u64 {
 }
 
 // The word of a line that stands behind so many spaces, or an empty one where there is none.
-fn word_of(line: &[u8], spaces: usize) -> &[u8] {
+pub(crate) fn word_of(line: &[u8], spaces: usize) -> &[u8] {
     let start = word_start(line, spaces);
     let end = word_end(line, start);
     &line[start..end]

@@ -46,7 +46,7 @@ pub fn write(
 
 // Puts a list of clusters at a place: how many, then two bytes each.
 fn write_clusters(out: &mut [u8], at: usize, clusters: &[u16]) -> usize
-    requires { ⌜ (length (now clusters) ≤ 28) × (at + 1 + 2 * length (now clusters) ≤ length (now out)) ⌝ }
+    requires { ⌜ (length (now clusters) ≤ 255) × (at + 1 + 2 * length (now clusters) ≤ length (now out)) ⌝ }
     ensures { λ r. ⌜ FieldsPut (listed 2 (now (clusters .entry))) (now (out .entry)) at r (now (out .exit)) ⌝ }
 {
     let mut at = write_u8(out, at, clusters.len() as u8);

@@ -49,7 +49,7 @@ impl SimpleDescriptorFields {
         }
     }
 
-    // Reads the fields before the lists.
+    // The descriptor that has these lists, its other fields read from before them.
     fn read(bytes: &[u8], lists: ClusterLists) -> SimpleDescriptorFields
         requires { ⌜ 6 ≤ length (now bytes) ⌝ }
         ensures { λ r. ⌜ r ≡ simpleOf (fieldOf simpleWidths (now (bytes .entry))) lists ⌝ }

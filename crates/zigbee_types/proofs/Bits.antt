@@ -1,4 +1,5 @@
--- Bits of numbers: what a mask takes out, and flags as bits. Each law is over the bit's number. Assumes nothing.
+-- Bits of numbers: flags as bits, numbers by their bits, operations bit by bit, and what a mask takes out. Each law is over the
+-- bit's number. Assumes nothing.
 use Prim.Native.Nat.{ℕ, zero, suc, _+_, _-_, _*_, _/_, _%_, _^_, _≤_, _<_}
 use native.Mathlib.Nat.{zero-add, suc-add, one-mul, zero-mul, mod-eq-of-lt, mod-lt, mod-one, zero-div, div-one, div-eq-of-lt, lt-of-lt-of-le, two-pow-succ}
 use native.Mathlib.Numerals.{add-one}
@@ -48,7 +49,7 @@ pub zero-bits : (i : ℕ) → bitAt i 0 ≡ false
 unfolding bitAt
 zero-bits i = rw zero-div
 
--- a number modulo 2 ^ n has the low n bits
+-- a number modulo 2 ^ n keeps its low n bits, and no others
 pub low-bits : (n i x : ℕ) → bitAt i (x % 2 ^ n) ≡ (ltb i n && bitAt i x)
 low-bits zero i x = rw (mod-one, zero-bits, leb·suc-zero)
 low-bits (suc n) zero x =
@@ -65,15 +66,14 @@ same-bits x y h = within (x + y) x y (omega arith) (omega arith) h
     within : (n x y : ℕ) → x ≤ n → y ≤ n → ((i : ℕ) → bitAt i x ≡ bitAt i y) → x ≡ y
     within zero x y p q h = omega arith
     within (suc n) x y p q h =
-        let halves : x / 2 ≡ y / 2 =
-        within n (x / 2) (y / 2) (omega arith) (omega arith) (λ i. rw (← bit-above i x, ← bit-above i y) (h (suc i)))
-        in
+        let above : (i : ℕ) → bitAt i (x / 2) ≡ bitAt i (y / 2) = λ i. rw (← bit-above i x, ← bit-above i y) (h (suc i)) in
+        let halves : x / 2 ≡ y / 2 = within n (x / 2) (y / 2) (omega arith) (omega arith) above in
         let lowest : x / 2 ^ 0 % 2 ≡ y / 2 ^ 0 % 2 = rw (bit-told 0 x, bit-told 0 y, h 0) in
         omega arith
 
 -- ---- operations on numbers, bit by bit
 
--- an operation that goes by digits goes by flags
+-- an operation that goes digit by digit goes flag by flag
 module _
     (op : ℕ → ℕ → ℕ)
     (on : Bool → Bool → Bool)

@@ -7,11 +7,12 @@ use Rattle.replay.proofs.take.Statement.{statement}
 use Rattle.replay.proofs.take.Tie as tie
 
 abbrev Inv-loop : tie.InvT-loop
-Inv-loop input line₀ count space₀ answers₀ count₀ at₀ i₀ line space answers count' at i =
-    (length line ≡ length line₀) × (length space ≡ length space₀) × (length answers ≡ length answers₀)
+Inv-loop input line₀ count space₀ clusters₀ answers₀ count₀ at₀ i₀ line space clusters answers count' at i =
+    (length line ≡ length line₀) × (length space ≡ length space₀) ×
+    (length clusters ≡ length clusters₀) × (length answers ≡ length answers₀)
 
 abbrev μ-loop : tie.MeasureT-loop
-μ-loop input line₀ count space₀ answers₀ count₀ at₀ i₀ line space answers count' at i = length input - i
+μ-loop input line₀ count space₀ clusters₀ answers₀ count₀ at₀ i₀ line space clusters answers count' at i = length input - i
 
 pub take-spec : {M : Type 1} → statement M
 take-spec =
@@ -34,4 +35,5 @@ take-spec =
     (λ c. search needs)  -- same-length
     (λ c. search needs)  -- same-length-2
     (λ c. search needs)  -- same-length-3
+    (λ c. search needs)  -- same-length-4
     (λ c. search needs))  -- returns

@@ -23,13 +23,7 @@ bytes-in-spec =
     (λ c. search needs)  -- loop-holds
     (λ c. search needs)  -- same-length
     (λ c. search needs)  -- returns
-    (λ c. search needs)  -- mul-digit
-    (λ c. search needs)  -- shared-slice-read-digit
-    (λ c κs. search needs)  -- digit-requires
-    (λ c. search needs)  -- mul-digit-2
-    (λ c. search needs)  -- add-digit
-    (λ c. search needs)  -- shared-slice-read-digit-2
-    (λ c κs. search needs)  -- digit-requires-2
+    (λ c κs. search needs)  -- u8-at-requires
     (λ c. search needs)  -- slice-write-space
     (λ c. search needs)  -- add-i
     (λ c. search needs)  -- loop-less

@@ -1,0 +1,34 @@
+-- `clusters_in` answers a count of the slice's clusters, and the slice keeps its length. Assumes nothing.
+use Prim.Native.Nat.{_≤_, _-_}
+use native.Mathlib.Omega.{arith}
+use mathlib.Core.Path.{_≡_}
+use borrow.Author.Needs.{needs}
+use lib.ListN.{length, length-set}
+use Rattle.replay.proofs.words.clusters_in.Statement.{statement}
+use Rattle.replay.proofs.words.clusters_in.Tie as tie
+
+abbrev Inv-loop : tie.InvT-loop
+Inv-loop line word clusters₀ digits i₀ clusters i = (i ≤ length clusters₀) × (length clusters ≡ length clusters₀)
+
+abbrev μ-loop : tie.MeasureT-loop
+μ-loop line word clusters₀ digits i₀ clusters i = length clusters₀ - i
+
+pub clusters-in-spec : {M : Type 1} → statement M
+clusters-in-spec =
+    tie.close
+    (tie.spec
+    Inv-loop
+    μ-loop
+    (λ c κs. search needs)  -- word-of-requires
+    (λ c. search needs)  -- loop-holds
+    (λ c. search needs)  -- same-length
+    (λ c. search needs)  -- returns
+    (λ c. search needs)  -- mul-u16-at
+    (λ c κs. search needs)  -- u16-at-requires
+    (λ c. search needs)  -- mul-clusters
+    (λ c. search needs)  -- slice-write-clusters
+    (λ c. search needs)  -- add-i
+    (λ c. search needs)  -- loop-less
+    (λ c. (omega arith, simp length-set (omega arith)))  -- loop-again
+    (λ c. search needs)  -- same-length-2
+    (λ c. search needs))  -- returns-2

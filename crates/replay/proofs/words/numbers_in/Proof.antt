@@ -1,0 +1,34 @@
+-- `numbers_in` answers a count of the slice's bytes, and the slice keeps its length. Assumes nothing.
+use Prim.Native.Nat.{_≤_, _-_}
+use native.Mathlib.Omega.{arith}
+use mathlib.Core.Path.{_≡_}
+use borrow.Author.Needs.{needs}
+use lib.ListN.{length, length-set}
+use Rattle.replay.proofs.words.numbers_in.Statement.{statement}
+use Rattle.replay.proofs.words.numbers_in.Tie as tie
+
+abbrev Inv-loop : tie.InvT-loop
+Inv-loop line word space₀ digits i₀ space i = (i ≤ length space₀) × (length space ≡ length space₀)
+
+abbrev μ-loop : tie.MeasureT-loop
+μ-loop line word space₀ digits i₀ space i = length space₀ - i
+
+pub numbers-in-spec : {M : Type 1} → statement M
+numbers-in-spec =
+    tie.close
+    (tie.spec
+    Inv-loop
+    μ-loop
+    (λ c κs. search needs)  -- word-of-requires
+    (λ c. search needs)  -- loop-holds
+    (λ c. search needs)  -- same-length
+    (λ c. search needs)  -- returns
+    (λ c. search needs)  -- mul-u8-at
+    (λ c. search needs)  -- add-u8-at
+    (λ c κs. search needs)  -- u8-at-requires
+    (λ c. search needs)  -- slice-write-space
+    (λ c. search needs)  -- add-i
+    (λ c. search needs)  -- loop-less
+    (λ c. (omega arith, simp length-set (omega arith)))  -- loop-again
+    (λ c. search needs)  -- same-length-2
+    (λ c. search needs))  -- returns-2

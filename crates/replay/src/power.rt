@@ -1,0 +1,117 @@
+// The questions about the node power descriptor as a whole (oracle/README.md, "Descriptors").
+use crate::bits;
+use crate::out;
+use crate::values;
+use crate::words;
+use crate::words::asks;
+use crate::words::u16_at;
+use node_power_descriptor::NodePowerDescriptor;
+use node_power_descriptor::NodePowerDescriptorRead;
+use node_power_descriptor::descriptor::PowerDescriptorConfig;
+
+// What a line asks about the node power descriptor.
+enum Question {
+    Write,
+    TryRead,
+    Accessors,
+    Supports,
+    Other,
+}
+
+// Which question about the node power descriptor a line is.
+fn asked(line: &[u8]) -> Question {
+    if asks(line, b"PowerDescriptorConfig::write P S b") {
+        return Question::Write;
+    }
+    if asks(line, b"NodePowerDescriptor::try_read b") {
+        return Question::TryRead;
+    }
+    if asks(line, b"NodePowerDescriptor::accessors b") {
+        return Question::Accessors;
+    }
+    if asks(line, b"NodePowerDescriptor::supports b s") {
+        return Question::Supports;
+    }
+    Question::Other
+}
+
+// Puts the answer to a question about the node power descriptor. The place stays where the line is none.
+pub(crate) fn answer(line: &[u8], space: &mut [u8], out: &mut [u8], at: usize) -> usize {
+    match asked(line) {
+        Question::Write => write(line, space, out, at),
+        Question::TryRead => try_read(line, space, out, at),
+        Question::Accessors => accessors(words::word_of(line, 1), out, at),
+        Question::Supports => supports(line, out, at),
+        Question::Other => at,
+    }
+}
+
+// Puts the answer to a write: behind its name stand POWER NAMEDS BUFFER.
+fn write(line: &[u8], space: &mut [u8], out: &mut [u8], at: usize) -> usize {
+    let power = power_of(words::word_of(line, 1), bits::bitmap(line, 2, space));
+    let count = words::bytes_in(line, 3, space);
+    let buffer = &mut space[0..count];
+    let answer = power.write(buffer);
+    out::written(out, at, answer, words::word_of(line, 3), buffer)
+}
+
+// The configuration that a word says, with the bits of the available sources.
+fn power_of(word: &[u8], available_power_sources: u8) -> PowerDescriptorConfig {
+    PowerDescriptorConfig {
+        current_power_mode: values::mode(u16_at(word, 0)),
+        available_power_sources,
+        current_power_source: values::source(u16_at(word, 2)),
+        current_power_source_level: values::level(u16_at(word, 4)),
+    }
+}
+
+// Puts the answer to a read: behind its name stand BYTES. A descriptor is always read from two.
+fn try_read(line: &[u8], space: &mut [u8], out: &mut [u8], at: usize) -> usize {
+    let count = words::bytes_in(line, 1, space);
+    match NodePowerDescriptor::try_read(&space[0..count]) {
+        NodePowerDescriptorRead::Descriptor(_) => out::decimal(out, at, 2),
+        NodePowerDescriptorRead::Refused(_) => out::byte(out, at, b'R'),
+    }
+}
+
+// Puts the power that the descriptor of a word's bytes says. Less than two bytes are no question.
+fn accessors(word: &[u8], out: &mut [u8], at: usize) -> usize {
+    if word.len() < 4 {
+        return at;
+    }
+    let descriptor = descriptor_of(word);
+    let at = out::hex_u16(out, at, values::of_mode(descriptor.current_power_mode()));
+    let at = out::hex_u16(
+        out,
+        at,
+        values::of_source(descriptor.current_power_source()),
+    );
+    out::hex_u16(
+        out,
+        at,
+        values::of_level(descriptor.current_power_source_level()),
+    )
+}
+
+// Puts whether a descriptor has a source available: behind the question's name stand BYTES NAMED. Less than two bytes are no
+// question.
+fn supports(line: &[u8], out: &mut [u8], at: usize) -> usize {
+    let word = words::word_of(line, 1);
+    if word.len() < 4 {
+        return at;
+    }
+    let descriptor = descriptor_of(word);
+    out::flag(
+        out,
+        at,
+        descriptor.supports(values::source(words::u16_in(line, 2))),
+    )
+}
+
+// The descriptor of a word's first two bytes, which may be such as are not read.
+fn descriptor_of(word: &[u8]) -> NodePowerDescriptor {
+    NodePowerDescriptor {
+        byte0: words::u8_at(word, 0),
+        byte1: words::u8_at(word, 1),
+    }
+}
