@@ -1,11 +1,11 @@
--- Each answer that is an enum comes back from what it says. Assumes nothing.
+-- Each enum that is an answer or a refusal comes back from what it says. Assumes nothing.
 use mathlib.Core.Path.{_≡_, refl}
 use Rattle.zigbee_types.specs.Answers.{writtenSays, listsSays}
 use Rattle.zigbee_types.specs.declared.Written.{Written}
 use Rattle.zigbee_types.specs.declared.Written.the-variants as written
 use Rattle.zigbee_types.specs.declared.ClusterListsRead.{ClusterListsRead}
 use Rattle.zigbee_types.specs.declared.ClusterListsRead.the-variants as lists
-use Rattle.zigbee_types.proofs.OneOutcome.{from, determined, refused-back}
+use Rattle.zigbee_types.proofs.OneOutcome.{from, determined, refused-back, one-wrote}
 use Rattle.node_descriptor.specs.NodeDescriptor.{nodeSays}
 use Rattle.node_descriptor.specs.declared.NodeDescriptorRead.{NodeDescriptorRead}
 use Rattle.node_descriptor.specs.declared.NodeDescriptorRead.the-variants as node
@@ -15,7 +15,7 @@ use Rattle.node_power_descriptor.specs.declared.NodePowerDescriptorRead.the-var
 use Rattle.simple_descriptor.specs.SimpleDescriptor.{simpleSays}
 use Rattle.simple_descriptor.specs.declared.SimpleDescriptorRead.{SimpleDescriptorRead}
 use Rattle.simple_descriptor.specs.declared.SimpleDescriptorRead.the-variants as simple
-use Rattle.demands.specs.OneAnswer.{OneAnswer}
+use Rattle.demands.specs.OneAnswer.{Determines, OneAnswer}
 
 written-back : (w : Written) → from written.Length written.Refused (writtenSays w) ≡ w
 unfolding writtenSays
@@ -42,12 +42,16 @@ unfolding simpleSays
 simple-back (simple.Descriptor d) = refl
 simple-back (simple.Refused why) = refused-back simple.Refused why
 
+one-written : Determines writtenSays
+one-written = determined writtenSays written.Length written.Refused written-back
+
 pub one-answer : OneAnswer
 one-answer =
     record {
-      written = determined writtenSays written.Length written.Refused written-back;
+      written = one-written;
       lists = determined listsSays lists.Lists lists.Refused lists-back;
       node = determined nodeSays node.Descriptor node.Refused node-back;
       power = determined powerSays power.Descriptor power.Refused power-back;
       simple = determined simpleSays simple.Descriptor simple.Refused simple-back;
+      writer = λ o before r s after later p q. let (told, left) = one-wrote o before _ _ after later p q in (one-written r s told, left);
     }

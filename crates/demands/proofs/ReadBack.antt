@@ -1,7 +1,7 @@
 -- A descriptor that was written reads back with its fields cut to their widths. Assumes nothing.
 use Prim.Native.Nat.{ℕ, _%_, _≤_}
 use native.Mathlib.Omega.{arith}
-use mathlib.Core.Path.{_≡_}
+use mathlib.Core.Path.{_≡_, refl}
 use mathlib.Core.Bool.{cond}
 use mathlib.Core.List.{List, [], _++_, map, append-assoc}
 use lib.ListN.{length}
@@ -9,19 +9,46 @@ use lib.Dec.{leb}
 use borrow.Author.Tests.{leb-true}
 use Rattle.zigbee_types.specs.Outcome.{answer, refusal, andThen, mapped}
 use Rattle.zigbee_types.specs.Layout.{laid, cut, size, fieldsAt, listed}
+use Rattle.zigbee_types.specs.Lists.{find, option}
+use Rattle.zigbee_types.specs.Named.{named}
 use Rattle.zigbee_types.specs.FieldLaws.{ListsAt}
 use Rattle.zigbee_types.proofs.Layouts.{laid-counted, laid-back, parses, lists-back}
 use Rattle.zigbee_types.proofs.Runs.{laid-append}
+use Rattle.zigbee_types.proofs.Named.{named-number}
 use Rattle.zigbee_types.proofs.Outcomes.{granted, mapped-granted, wrote-bytes, wrote-answer}
-use Rattle.node_descriptor.specs.NodeDescriptor.{nodeByte0, nodeByte1, nodeDescriptor, nodeWidths, nodeDescriptorIn, nodeFields}
+use Rattle.node_descriptor.specs.NodeDescriptor.{typeNumber, typeNames, logicalType, nodeByte0, nodeByte1, nodeDescriptor, nodeWidths, nodeDescriptorIn, nodeFields}
 use Rattle.node_descriptor.specs.declared.descriptor.NodeDescriptorConfig.{NodeDescriptorConfig}
+use Rattle.node_descriptor.specs.declared.LogicalType.the-variants as type
 use Rattle.node_descriptor.proofs.Bits.{node-bits}
-use Rattle.node_power_descriptor.specs.PowerDescriptor.{sourceBits, powerByte0, powerByte1, powerDescriptor, powerWidths, powerDescriptorIn, powerFields, usable}
+use Rattle.node_power_descriptor.specs.PowerDescriptor.{modeNumber, modeNames, currentPowerMode, sourceNumber, sourceNames, powerSource, levelNumber, levelNames, currentPowerSourceLevel, sourceBits, powerByte0, powerByte1, powerDescriptor, powerWidths, powerDescriptorIn, powerFields, usable}
 use Rattle.node_power_descriptor.specs.declared.descriptor.PowerDescriptorConfig.{PowerDescriptorConfig}
+use Rattle.node_power_descriptor.specs.declared.CurrentPowerMode.the-variants as mode
+use Rattle.node_power_descriptor.specs.declared.PowerSource.the-variants as source
+use Rattle.node_power_descriptor.specs.declared.CurrentPowerSourceLevel.the-variants as level
 use Rattle.node_power_descriptor.proofs.Bits.{power-bits}
 use Rattle.simple_descriptor.specs.SimpleDescriptor.{Endpoint, simpleHeader, simpleDescriptor, clusterCount, simpleWritten, simpleWidths, simpleOf, simpleDescriptorIn, simpleFields}
-use Rattle.demands.specs.ReadBack.{cutNode, NodeReadsBack, cutPower, PowerReadsBack, cutEndpoint, SimpleReadsBack}
+use Rattle.demands.specs.ReadBack.{NamesStand, NamesReadBack, cutNode, NodeReadsBack, cutPower, PowerReadsBack, cutEndpoint, SimpleReadsBack}
 use Rattle.demands.proofs.Frames.{one-layout}
+
+-- ---- named values
+
+-- a number that stands for a named or a reserved value, whatever the names
+stand :
+    {A : Type 0} (number : A → ℕ) (names : List A) (reserved : ℕ → A)
+    → ((k : ℕ) → number (reserved k) ≡ k)
+    → map (λ a. named number names reserved (number a)) names ≡ names
+    → NamesStand number (named number names reserved) names
+stand number names reserved h e = record { numbers = λ n. named-number number names reserved n h; named = e }
+
+pub names-read-back : NamesReadBack
+unfolding logicalType currentPowerMode powerSource currentPowerSourceLevel named option find
+names-read-back =
+    record {
+      types = stand typeNumber typeNames type.Reserved (λ k. refl) refl;
+      modes = stand modeNumber modeNames mode.Reserved (λ k. refl) refl;
+      sources = stand sourceNumber sourceNames source.Reserved (λ k. refl) refl;
+      levels = stand levelNumber levelNames level.Reserved (λ k. refl) refl;
+    }
 
 -- ---- node
 

@@ -30,7 +30,8 @@ pub record OneLayout : Type 0 where
   pub status : (seq status : ℕ) → widths (statusFields seq status) ≡ statusWidths
   pub nodeRequest : (seq : ℕ) (a : ShortAddress) → widths (addrOfInterestFields seq a) ≡ addrOfInterestWidths
 
--- document 01, "Replies": the length of each reply, and what the length byte of a simple reply says
+-- document 01, "Replies" and "Payloads": the length of each reply and of the node request, and what the length byte of a simple
+-- reply says
 pub record ReplyLengths : Type 0 where
   pub node : (seq : ℕ) (a : ShortAddress) (n : NodeDescriptorConfig) → mapped length (nodeDescRsp seq a n) ≡ answer 17
   pub power : (seq : ℕ) (a : ShortAddress) (p : PowerDescriptorConfig) → mapped length (powerDescRsp seq a p) ≡ answer 6

@@ -1,7 +1,11 @@
--- Each answer that is an enum is determined by what it says, as a statement: a contract about what it says leaves one answer. A
--- term of it stands in proofs/.
+-- An enum that is an answer or a refusal is determined by what it says, as a statement: a contract about what it says leaves one
+-- answer. A term of it stands in proofs/.
+use Prim.Native.Nat.{ℕ}
 use mathlib.Core.Path.{_≡_}
+use mathlib.Core.List.{List}
+use Rattle.zigbee_types.specs.Outcome.{Outcome, Wrote}
 use Rattle.zigbee_types.specs.Answers.{writtenSays, listsSays}
+use Rattle.zigbee_types.specs.declared.Written.{Written}
 use Rattle.node_descriptor.specs.NodeDescriptor.{nodeSays}
 use Rattle.node_power_descriptor.specs.PowerDescriptor.{powerSays}
 use Rattle.simple_descriptor.specs.SimpleDescriptor.{simpleSays}
@@ -10,10 +14,15 @@ use Rattle.simple_descriptor.specs.SimpleDescriptor.{simpleSays}
 abbrev pub Determines : {A B : Type 0} → (A → B) → Type 0
 Determines {A} says = (a b : A) → says a ≡ says b → a ≡ b
 
--- of each enum that is an answer
+-- so is each enum that is an answer or a refusal, and with it what a writer answers and leaves in the buffer
 pub record OneAnswer : Type 0 where
   pub written : Determines writtenSays
   pub lists : Determines listsSays
   pub node : Determines nodeSays
   pub power : Determines powerSays
   pub simple : Determines simpleSays
+  pub writer :
+      (o : Outcome (List ℕ)) (before : List ℕ) (r s : Written) (after later : List ℕ)
+      → Wrote o before (writtenSays r) after
+      → Wrote o before (writtenSays s) later
+      → (r ≡ s) × (after ≡ later)

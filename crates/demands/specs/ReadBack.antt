@@ -3,14 +3,35 @@
 use Prim.Native.Nat.{ℕ, _%_}
 use mathlib.Core.Path.{_≡_}
 use mathlib.Core.Bool.{cond}
-use mathlib.Core.List.{List, map}
+use mathlib.Core.List.{List, [], _∷_, map}
 use Rattle.zigbee_types.specs.Outcome.{answer, refusal, mapped, Wrote}
 use Rattle.zigbee_types.specs.Layout.{laid}
-use Rattle.node_descriptor.specs.NodeDescriptor.{typeBits, logicalType, nodeDescriptor, nodeDescriptorIn, nodeFields}
+use Rattle.node_descriptor.specs.NodeDescriptor.{typeNumber, typeBits, logicalType, nodeDescriptor, nodeDescriptorIn, nodeFields}
 use Rattle.node_descriptor.specs.declared.descriptor.NodeDescriptorConfig.{NodeDescriptorConfig}
-use Rattle.node_power_descriptor.specs.PowerDescriptor.{modeBits, currentPowerMode, sourceBits, powerSource, levelBits, currentPowerSourceLevel, powerDescriptor, powerDescriptorIn, powerFields, usable}
+use Rattle.node_descriptor.specs.declared.LogicalType.the-variants as type
+use Rattle.node_power_descriptor.specs.PowerDescriptor.{modeNumber, modeBits, currentPowerMode, sourceNumber, sourceBits, powerSource, levelNumber, levelBits, currentPowerSourceLevel, powerDescriptor, powerDescriptorIn, powerFields, usable}
 use Rattle.node_power_descriptor.specs.declared.descriptor.PowerDescriptorConfig.{PowerDescriptorConfig}
+use Rattle.node_power_descriptor.specs.declared.CurrentPowerMode.the-variants as mode
+use Rattle.node_power_descriptor.specs.declared.PowerSource.the-variants as source
+use Rattle.node_power_descriptor.specs.declared.CurrentPowerSourceLevel.the-variants as level
 use Rattle.simple_descriptor.specs.SimpleDescriptor.{Endpoint, simpleWritten, simpleDescriptorIn, simpleFields}
+
+-- ---- named values
+
+-- a field of named and reserved values: what a number stands for has that number, and each of the names is what its own number
+-- stands for. So any other number stands for a reserved value.
+pub record NamesStand {A : Type 0} (number : A → ℕ) (value : ℕ → A) (names : List A) : Type 0 where
+  pub numbers : (n : ℕ) → number (value n) ≡ n
+  pub named : map (λ a. value (number a)) names ≡ names
+
+-- of each such field
+pub record NamesReadBack : Type 0 where
+  pub types : NamesStand typeNumber logicalType (type.Coordinator ∷ type.Router ∷ type.EndDevice ∷ [])
+  pub modes : NamesStand modeNumber currentPowerMode (mode.Synchronized ∷ mode.Periodically ∷ mode.Stimulated ∷ [])
+  pub sources : NamesStand sourceNumber powerSource (source.ConstantMainPower ∷ source.RechargeableBattery ∷ source.DisposableBattery ∷ [])
+  pub levels : NamesStand levelNumber currentPowerSourceLevel (level.Critical ∷ level.OneThird ∷ level.TwoThirds ∷ level.Full ∷ [])
+
+-- ---- descriptors
 
 -- a node's fields, cut: three bits of type, five of band, and the bytes of the others. A reserved type that, once cut, has the
 -- number of a named one is that one.
@@ -37,7 +58,7 @@ NodeReadsBack =
     → Wrote (answer (laid (nodeDescriptor n))) before (answer told) after
     → mapped nodeFields (nodeDescriptorIn after) ≡ answer (cutNode n)
 
--- a power descriptor's fields, cut to four bits each
+-- a power descriptor's fields, cut to four bits each. A reserved number that, once cut, is that of a named value is that value.
 unfoldable pub cutPower : PowerDescriptorConfig → PowerDescriptorConfig
 cutPower p =
     record {

@@ -33,11 +33,15 @@ typeNames = Coordinator ∷ Router ∷ EndDevice ∷ []
 unfoldable pub logicalType : ℕ → LogicalType
 logicalType n = named typeNumber typeNames Reserved n
 
--- what an unfilled configuration says: a router, and zero elsewhere (document 01)
+-- the type of a device that says nothing else: a router (document 01)
+abbrev pub defaultType : LogicalType
+defaultType = Router
+
+-- what an unfilled configuration says: that type, and zero elsewhere (document 01)
 abbrev pub defaultNode : NodeDescriptorConfig
 defaultNode =
     record {
-      «logical_type» = Router;
+      «logical_type» = defaultType;
       «complex_descriptor_available» = false;
       «user_descriptor_available» = false;
       «frequency_band» = 0;
@@ -102,7 +106,7 @@ unfoldable pub nodeSays : NodeDescriptorRead → Outcome NodeDescriptor
 nodeSays (Descriptor d) = answer d
 nodeSays (Refused why) = refusal (refusalNumber why)
 
--- what a descriptor that was read says; each accessor of 001 gives one of these
+-- what a descriptor that was read says: each accessor of 001 gives one of these
 abbrev pub nodeFields : NodeDescriptor → NodeDescriptorConfig
 nodeFields d =
     record {

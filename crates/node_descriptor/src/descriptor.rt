@@ -34,7 +34,7 @@ impl NodeDescriptorConfig {
         ensures { λ r. ⌜ r ≡ defaultNode ⌝ }
     {
         NodeDescriptorConfig {
-            logical_type: LogicalType::Router,
+            logical_type: LogicalType::default(),
             complex_descriptor_available: false,
             user_descriptor_available: false,
             frequency_band: 0,

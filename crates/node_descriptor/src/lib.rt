@@ -8,7 +8,7 @@ use zigbee_types::byte::read_u16;
 ghost use mathlib.Core.Path.{_≡_};
 ghost use Prim.Native.Nat.{_%_};
 ghost use Rattle.zigbee_types.specs.Bytes.{bitAt};
-ghost use Rattle.node_descriptor.specs.NodeDescriptor.{typeNumber, typeBits, logicalType, nodeDescriptorIn, nodeSays, nodeFields, stackRevision};
+ghost use Rattle.node_descriptor.specs.NodeDescriptor.{typeNumber, typeBits, logicalType, defaultType, nodeDescriptorIn, nodeSays, nodeFields, stackRevision};
 ghost use Rattle.node_descriptor.specs.Flags.{frequencyBandFlag, macCapabilityFlag, serverMaskFlag, descriptorCapabilityFlag};
 
 pub(crate) const NODE_DESCRIPTOR_SIZE: usize = 13;
@@ -29,6 +29,13 @@ fn type_bits(x: u8) -> u8
 }
 
 impl LogicalType {
+    // The type of a device that says nothing else (document 01, module 2).
+    pub fn default() -> LogicalType
+        ensures { λ r. ⌜ r ≡ defaultType ⌝ }
+    {
+        LogicalType::Router
+    }
+
     // The three bits that are written for a type (2.3.2.3.1).
     pub(crate) fn bits(self) -> u8
         ensures { λ r. ⌜ r ≡ typeBits self ⌝ }
@@ -61,8 +68,8 @@ impl LogicalType {
     }
 }
 
-// The thirteen bytes of a node descriptor, by the fields that are sent: bytes 0 and 1 share several, the others are one
-// each. (The Rust keeps a slice of the bytes.)
+// A node descriptor, as it was sent: bytes 0 and 1, which hold several fields each, and then field by field. (The Rust keeps a
+// slice of the thirteen bytes.)
 pub struct NodeDescriptor {
     pub byte0: u8,
     pub byte1: u8,
@@ -191,13 +198,13 @@ pub struct FrequencyBands(pub u8);
 
 pub enum FrequencyBandFlag {
     // 868 - 868.6 MHz
-    Low = 0,
+    Low,
     // 902 - 928 MHz
-    Mid = 2,
+    Mid,
     // 2400 - 2483.5 MHz
-    High = 3,
+    High,
     // European FSK sub-GHz bands: (863-876MHz and 915-921MHz)
-    EuropeanFSK = 4,
+    EuropeanFSK,
 }
 
 impl FrequencyBandFlag {
@@ -228,16 +235,16 @@ pub struct MacCapabilities(pub u8);
 
 pub enum MacCapabilityFlag {
     // Set if this node is capable of becoming a PAN coordinator.
-    AlternatePanCoordinator = 0,
+    AlternatePanCoordinator,
     // Set if this node is a full function device (FFD), unset for a reduced function device (RFD).
-    DeviceType = 1,
+    DeviceType,
     // Set if the current power source is mains power.
-    PowerSource = 2,
+    PowerSource,
     // Set if the device does not disable its receiver to conserve power during idle periods.
-    ReceiverOnWhenIdle = 3,
+    ReceiverOnWhenIdle,
     // Set if the device supports the Zigbee security suite.
-    SecurityCapability = 6,
-    AllocateAddress = 7,
+    SecurityCapability,
+    AllocateAddress,
 }
 
 impl MacCapabilityFlag {
@@ -269,13 +276,13 @@ impl MacCapabilities {
 pub struct ServerMask(pub u16);
 
 pub enum ServerMaskFlag {
-    PrimaryTrustCenter = 0,
-    BackupTrustCenter = 1,
-    PrimaryBindingTableCache = 2,
-    BackupBindingTableCache = 3,
-    PrimaryDiscoveryCache = 4,
-    BackupDiscoveryCache = 5,
-    NetworkManager = 6,
+    PrimaryTrustCenter,
+    BackupTrustCenter,
+    PrimaryBindingTableCache,
+    BackupBindingTableCache,
+    PrimaryDiscoveryCache,
+    BackupDiscoveryCache,
+    NetworkManager,
 }
 
 impl ServerMaskFlag {
@@ -315,8 +322,8 @@ impl ServerMask {
 pub struct DescriptorCapabilities(pub u8);
 
 pub enum DescriptorCapabilityFlag {
-    ExtendedActiveEndpontListAvailable = 0,
-    ExtendedSimpleDescriptorListAvailable = 1,
+    ExtendedActiveEndpontListAvailable,
+    ExtendedSimpleDescriptorListAvailable,
 }
 
 impl DescriptorCapabilityFlag {

@@ -2,17 +2,19 @@
 use Prim.Native.Nat.{ℕ, _/_, _%_}
 use native.Mathlib.Omega.{arith}
 use mathlib.Core.Path.{_≡_, refl}
-use mathlib.Core.Bool.{Bool, true, false}
+use mathlib.Core.Bool.{Bool, true, false, and-true, and-false, or-false}
 use mathlib.Core.Logic.{⊎-elim}
 use mathlib.Core.List.{[], _∷_}
 use lib.Dec.{eqb}
 use borrow.Author.Tests.{ne-eqb}
 use denote.Enum.Declared.{tagOf}
 use types.Run.{OneOf}
-use Rattle.zigbee_types.specs.Lists.{find, option}
+use Rattle.zigbee_types.specs.Bytes.{bitAt}
+use Rattle.zigbee_types.specs.Lists.{any, find, option}
 use Rattle.zigbee_types.specs.Named.{named}
 use Rattle.zigbee_types.proofs.Named.{named-number}
 use Rattle.node_power_descriptor.specs.PowerDescriptor.{sourceNumber, sourceNames, sourceBits, powerSource, common, supports, usable}
+use Rattle.node_power_descriptor.specs.Bits.{UsableSources}
 use Rattle.node_power_descriptor.specs.declared.NodePowerDescriptor.{NodePowerDescriptor}
 use Rattle.node_power_descriptor.specs.declared.PowerSource.{PowerSource}
 use Rattle.node_power_descriptor.specs.declared.PowerSource.the-variants.{ConstantMainPower, RechargeableBattery, DisposableBattery, Reserved}
@@ -52,3 +54,7 @@ usable-named d s b e t h = rw h (go s (d .byte1 % 16) (rw e (named-number source
     go RechargeableBattery n e t = rw (← e)
     go DisposableBattery n e t = rw (← e)
     go (Reserved k) n e t = absurd (⊎-elim (λ a. omega arith) (⊎-elim (λ a. omega arith) (λ a. omega arith)) t)
+
+pub usable-sources : UsableSources
+unfolding usable common any bitAt
+usable-sources = record { named = λ a. simp (and-true, and-false, or-false); others = λ a c p q r. rw (ne-eqb c 1 p, ne-eqb c 2 q, ne-eqb c 4 r) }

@@ -1,13 +1,13 @@
--- Where the fields that share a byte stand in it, and which bits a union of sources has, as statements. Terms of them stand in
--- proofs/.
+-- Where the fields that share a byte stand in it, which bits a union of sources has, and which sources the reader takes, as
+-- statements. Terms of them stand in proofs/.
 use Prim.Native.Nat.{ℕ, _/_, _%_}
 use mathlib.Core.Path.{_≡_}
-use mathlib.Core.Bool.{_&&_}
-use mathlib.Core.List.{List}
+use mathlib.Core.Bool.{false, _&&_}
+use mathlib.Core.List.{List, [], _∷_, map}
 use lib.Dec.{ltb}
 use Rattle.zigbee_types.specs.Bytes.{bitAt}
 use Rattle.zigbee_types.specs.Lists.{any}
-use Rattle.node_power_descriptor.specs.PowerDescriptor.{modeBits, sourceBits, levelBits, powerByte0, powerByte1, sourceBitmap}
+use Rattle.node_power_descriptor.specs.PowerDescriptor.{modeBits, sourceBits, levelBits, powerByte0, powerByte1, sourceBitmap, usable}
 use Rattle.node_power_descriptor.specs.declared.descriptor.PowerDescriptorConfig.{PowerDescriptorConfig}
 
 -- document 01, module 3: mode low and sources high in byte 0, source low and level high in byte 1
@@ -24,3 +24,8 @@ PowerBitsStand = (p : PowerDescriptorConfig) → PowerBits p
 -- document 01, module 3: a bit is set in the union of sources exactly if it is one of the low four and some source has it
 abbrev pub BitmapUnion : Type 0
 BitmapUnion = (i : ℕ) (xs : List ℕ) → bitAt i (sourceBitmap xs) ≡ (ltb i 4 && any (bitAt i) xs)
+
+-- document 01, module 3: of the current sources 1, 2 and 4 the reader takes each whose bit is among the available, and no other
+pub record UsableSources : Type 0 where
+  pub named : (available : ℕ) → map (usable available) (1 ∷ 2 ∷ 4 ∷ []) ≡ bitAt 0 available ∷ bitAt 1 available ∷ bitAt 2 available ∷ []
+  pub others : (available current : ℕ) → (current ≡ 1 → ⊥) → (current ≡ 2 → ⊥) → (current ≡ 4 → ⊥) → usable available current ≡ false

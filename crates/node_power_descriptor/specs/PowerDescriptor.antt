@@ -41,7 +41,7 @@ modeNames = mode.Synchronized ∷ mode.Periodically ∷ mode.Stimulated ∷ []
 unfoldable pub currentPowerMode : ℕ → CurrentPowerMode
 currentPowerMode n = named modeNumber modeNames mode.Reserved n
 
--- the number of a source, which is its bit (2.3.2.4.2, 2.3.2.4.3)
+-- the number of a source (2.3.2.4.2, 2.3.2.4.3); that of a named one is one bit
 abbrev pub sourceNumber : PowerSource → ℕ
 sourceNumber source.ConstantMainPower = 1
 sourceNumber source.RechargeableBattery = 2
@@ -80,7 +80,7 @@ levelNames = level.Critical ∷ level.OneThird ∷ level.TwoThirds ∷ level.Ful
 unfoldable pub currentPowerSourceLevel : ℕ → CurrentPowerSourceLevel
 currentPowerSourceLevel n = named levelNumber levelNames level.Reserved n
 
--- the union of the low four bits of numbers: a bit is set if some number has it
+-- the union of the low four bits of numbers: each of the four is set exactly if some number has it
 unfoldable pub sourceBitmap : List ℕ → ℕ
 sourceBitmap xs = bit (any (bitAt 0) xs) + 2 * bit (any (bitAt 1) xs) + 4 * bit (any (bitAt 2) xs) + 8 * bit (any (bitAt 3) xs)
 
@@ -104,7 +104,7 @@ powerDescriptor p = byte (powerByte0 p) ∷ byte (powerByte1 p) ∷ []
 unfoldable pub powerWidths : List ℕ
 powerWidths = 1 ∷ 1 ∷ []
 
--- what a descriptor that was read says; each accessor of 002 gives one of these
+-- what a descriptor that was read says, field by field
 abbrev pub powerFields : NodePowerDescriptor → PowerDescriptorConfig
 powerFields d =
     record {

@@ -153,7 +153,7 @@ pub enum PowerSource {
 }
 
 impl PowerSource {
-    // The 4-bit field value with this source's bit set.
+    // The 4-bit field value, in which a named source has its bit set.
     pub fn bits(self) -> u8
         ensures { λ r. ⌜ r ≡ sourceBits self ⌝ }
     {

@@ -57,7 +57,7 @@ simpleWritten e = cond (leb (clusterCount e) 28) (answer (laid (simpleDescriptor
 unfoldable pub simpleWidths : List ℕ
 simpleWidths = 1 ∷ 2 ∷ 2 ∷ 1 ∷ []
 
--- a descriptor's first fields, then its lists
+-- a descriptor's first fields, the version modulo 16, then its lists
 unfoldable pub simpleOf : (ℕ → ℕ) → ClusterLists → SimpleDescriptorFields
 simpleOf field lists =
     record {

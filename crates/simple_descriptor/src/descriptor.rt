@@ -16,7 +16,7 @@ ghost use Rattle.simple_descriptor.specs.SimpleDescriptor.{endpointWith,
 const CLUSTERS: usize = 28;
 
 // Writes the simple descriptor of an endpoint (2.3.2.5) at the front of a buffer, clusters as little-endian u16. More than 28
-// clusters and then too short a buffer are refused, and nothing is written.
+// clusters are refused, and then too short a buffer; nothing is written in either case.
 pub fn write(
     endpoint: u8,
     profile_id: u16,

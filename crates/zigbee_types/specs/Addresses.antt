@@ -19,11 +19,11 @@ short a = word (a .0)
 abbrev pub ieeeOf : ℕ → IeeeAddress
 ieeeOf n = record { 0 = n }
 
--- the short address
+-- the short address that a number names
 abbrev pub shortOf : ℕ → ShortAddress
 shortOf n = record { 0 = n }
 
--- the group address
+-- the group address that a number names
 abbrev pub groupOf : ℕ → GroupAddress
 groupOf n = record { 0 = n }
 

@@ -110,7 +110,7 @@ pub record ListsAt (bytes : List ℕ) (at : ℕ) (inputs outputs : List ℕ) : T
   pub first : entriesAt 2 bytes (placesAt at (length inputs)) ≡ entriesCut 2 inputs
   pub second : entriesAt 2 bytes (placesAt (at + 1 + 2 * length inputs) (length outputs)) ≡ entriesCut 2 outputs
 
--- so do two lists of clusters, one behind the other
+-- two lists of clusters of at most 255 each, one behind the other, read back with their clusters cut
 abbrev pub ListsReadBack : Type 0
 ListsReadBack =
     (front inputs outputs rest : List ℕ)

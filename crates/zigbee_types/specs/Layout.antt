@@ -64,7 +64,7 @@ parsed widths make bytes = needing (size widths) bytes (make (fieldOf widths byt
 abbrev pub entry : ℕ → ℕ → Field
 entry w x = record { width = w; value = x }
 
--- a list as fields: how many entries, then w bytes for each
+-- a list of at most 255 entries as fields: how many, in one byte, then w bytes for each
 unfoldable pub listed : ℕ → List ℕ → List Field
 listed w xs = byte (length xs) ∷ map (entry w) xs
 

@@ -36,7 +36,8 @@ unfoldable pub written : List ℕ → Outcome (List ℕ) → List ℕ
 written before (answer bytes) = bytes ++ drop (length bytes) before
 written before (refusal n) = before
 
--- a writer that comes to o: the length of the reply or the refusal is told, and the reply stands in the buffer
+-- a writer that comes to o: the length of the reply is told and the reply stands in the buffer, or a refusal is told and the
+-- buffer is as it was
 pub record Wrote (o : Outcome (List ℕ)) (before : List ℕ) (told : Outcome ℕ) (after : List ℕ) : Type 0 where
   pub said : told ≡ mapped length (fitted (length before) o)
   pub left : after ≡ written before (fitted (length before) o)
@@ -50,7 +51,7 @@ unfoldable pub begun : List ℕ → Outcome (List ℕ) → List ℕ
 begun before (answer xs) = take (length before) xs ++ drop (length xs) before
 begun before (refusal n) = before
 
--- a search that comes to the list o: how many of it are in the buffer or the refusal is told, and they begin the buffer
+-- a search that comes to the list o: how many of it begin the buffer is told, or a refusal, and then the buffer is as it was
 pub record Begun (o : Outcome (List ℕ)) (before : List ℕ) (told : Outcome ℕ) (after : List ℕ) : Type 0 where
   pub said : told ≡ begunLength before o
   pub left : after ≡ begun before o

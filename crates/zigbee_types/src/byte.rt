@@ -87,7 +87,7 @@ fn read_u32(bytes: &[u8], at: usize) -> ReadU32
     }
 }
 
-// The number in the eight bytes at a place, the low half first (document 01, module 1).
+// The number in the eight bytes at a place, the low byte first (document 01, module 1).
 pub fn read_u64(bytes: &[u8], at: usize) -> ReadU64
     requires { ⌜ at + 8 ≤ length (now bytes) ⌝ }
     ensures { λ r. ⌜ FieldRead 8 (now (bytes .entry)) at (r .value) (r .next) ⌝ }
@@ -127,7 +127,7 @@ fn write_u32(out: &mut [u8], at: usize, x: u32) -> usize
     write_u16(out, middle, (x / 65536) as u16)
 }
 
-// Puts a number in the eight bytes at a place, the low half first (document 01, module 1).
+// Puts a number in the eight bytes at a place, the low byte first (document 01, module 1).
 pub fn write_u64(out: &mut [u8], at: usize, x: u64) -> usize
     requires { ⌜ at + 8 ≤ length (now out) ⌝ }
     ensures { λ r. ⌜ FieldPut 8 x (now (out .entry)) at r (now (out .exit)) ⌝ }
