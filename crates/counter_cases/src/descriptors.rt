@@ -1,11 +1,16 @@
-// The descriptors of document 01's device in K1 to K6.
+// The descriptors of document 01's device in K1 to K6, and descriptors that are refused. Buffers hold 0xEE before, and one byte
+// more than what is written has, so that what is left alone shows.
 use crate::print;
 use node_descriptor::LogicalType;
 use node_descriptor::NodeDescriptor;
 use node_descriptor::NodeDescriptorRead;
 use node_descriptor::descriptor::NodeDescriptorConfig;
+use node_power_descriptor::CurrentPowerMode;
+use node_power_descriptor::CurrentPowerSourceLevel;
 use node_power_descriptor::NodePowerDescriptor;
 use node_power_descriptor::NodePowerDescriptorRead;
+use node_power_descriptor::PowerSource;
+use node_power_descriptor::descriptor::PowerDescriptorConfig;
 use simple_descriptor::SimpleDescriptorFields;
 use simple_descriptor::SimpleDescriptorRead;
 use simple_descriptor::descriptor;
@@ -27,70 +32,97 @@ fn our_node() -> NodeDescriptorConfig {
     }
 }
 
-// The descriptor in K1's reply, and that it does not fit into a byte less.
-pub(crate) fn k1() {
-    let mut out = [0u8; 13];
-    print::text(b"K1 descriptor");
-    print::written(our_node().write(&mut out), &out);
-    let mut short = [0u8; 12];
-    print::text(b"\nK1 12 bytes");
-    print::written(our_node().write(&mut short), &short);
-    print::text(b"\n");
+// Our device's power, whose bytes are `42 84`: mode 2, the one available source 4, in use, at level 8.
+fn our_power() -> PowerDescriptorConfig {
+    PowerDescriptorConfig {
+        current_power_mode: CurrentPowerMode::Stimulated,
+        available_power_sources: PowerSource::bitmap(&[4]),
+        current_power_source: PowerSource::DisposableBattery,
+        current_power_source_level: CurrentPowerSourceLevel::TwoThirds,
+    }
 }
 
-// The stack revision of that descriptor, read from its bytes.
+// The descriptor in K1's reply, and that it does not fit into a byte less.
+pub(crate) fn k1() {
+    let mut out = [0xEEu8; 14];
+    print::text(b"K1 descriptor");
+    print::written(our_node().write(&mut out), &out);
+    let mut short = [0xEEu8; 12];
+    print::text(b"K1 12 bytes");
+    print::written(our_node().write(&mut short), &short);
+}
+
+// The stack revision of that descriptor, read from its bytes, and that twelve of them are refused.
 pub(crate) fn k2() {
-    let mut out = [0u8; 13];
+    let mut out = [0xEEu8; 13];
     our_node().write(&mut out);
     print::text(b"K2");
-    match NodeDescriptor::try_read(&out) {
-        NodeDescriptorRead::Descriptor(d) => print_revision(d),
+    print_revision(&out);
+    print::text(b"K2 12 bytes");
+    print_revision(&[0u8; 12]);
+}
+
+// The stack revision of the node descriptor in bytes.
+fn print_revision(bytes: &[u8]) {
+    match NodeDescriptor::try_read(bytes) {
+        NodeDescriptorRead::Descriptor(d) => print::decimal(revision(d)),
         NodeDescriptorRead::Refused(why) => print::refusal(why),
     }
     print::text(b"\n");
 }
 
-fn print_revision(d: NodeDescriptor) {
+// The stack revision in a descriptor's server mask.
+fn revision(d: NodeDescriptor) -> usize {
     let server_mask = d.server_mask();
-    print::decimal(server_mask.get_stack_compliance_revision() as usize);
+    server_mask.get_stack_compliance_revision() as usize
 }
 
 // Byte 0 of the default's descriptor.
 pub(crate) fn k3() {
-    let mut out = [0u8; 13];
+    let mut out = [0xEEu8; 13];
     NodeDescriptorConfig::default().write(&mut out);
     print::text(b"K3");
     print::byte(out[0]);
     print::text(b"\n");
 }
 
-// Three pairs of power bytes.
+// Our device's power bytes, and what the reader makes of the three pairs.
 pub(crate) fn k4() {
-    print::text(b"K4 42 84 is");
+    let mut out = [0xEEu8; 3];
+    print::text(b"K4 written");
+    print::written(our_power().write(&mut out), &out);
+    let mut short = [0xEEu8; 1];
+    print::text(b"K4 1 byte");
+    print::written(our_power().write(&mut short), &short);
+    print::text(b"K4 42 84");
     print_power(&[0x42, 0x84]);
-    print::text(b"K4 22 84 is");
+    print::text(b"K4 22 84");
     print_power(&[0x22, 0x84]);
-    print::text(b"K4 32 83 is");
+    print::text(b"K4 32 83");
     print_power(&[0x32, 0x83]);
 }
 
-// What the reader of power descriptors makes of bytes.
+// The fields of the power descriptor in bytes: mode, available sources, source, level.
 fn print_power(bytes: &[u8; 2]) {
     match NodePowerDescriptor::try_read(bytes) {
-        NodePowerDescriptorRead::Descriptor(d) => print_power_bytes(d),
+        NodePowerDescriptorRead::Descriptor(d) => print_power_fields(d),
         NodePowerDescriptorRead::Refused(why) => print::refusal(why),
     }
     print::text(b"\n");
 }
 
-fn print_power_bytes(d: NodePowerDescriptor) {
-    print::byte(d.byte0);
-    print::byte(d.byte1);
+// The numbers of a power descriptor's fields.
+fn print_power_fields(d: NodePowerDescriptor) {
+    print::byte(d.current_power_mode().bits());
+    print::byte(d.available_power_sources());
+    print::byte(d.current_power_source().bits());
+    print::byte(d.current_power_source_level().bits());
 }
 
-// The descriptor of endpoint 1 in K5's reply, and its fields, read from the bytes: each list by its place and its count.
+// The descriptor of endpoint 1 in K5's reply; its fields, read from its bytes, each list by its place and its count; and the
+// descriptors of docs/DIFFERENCES.md's nos. 3 and 4.
 pub(crate) fn k5() {
-    let mut out = [0u8; 14];
+    let mut out = [0xEEu8; 15];
     let written = descriptor::write(
         1,
         0x0104,
@@ -102,15 +134,25 @@ pub(crate) fn k5() {
     );
     print::text(b"K5 descriptor");
     print::written(written, &out);
-    print::text(b"\nK5 fields");
-    match SimpleDescriptorFields::try_read(&out) {
-        SimpleDescriptorRead::Descriptor(d) => print_simple(d),
+    print::text(b"K5 fields");
+    print_simple(&out);
+    print::text(b"difference 3");
+    print_simple(&[0x01, 0x04, 0x01, 0x02, 0x03, 0x01, 0x00, 0x01, 0x19]);
+    print::text(b"difference 4");
+    print_simple(&[0x01, 0x04, 0x01, 0x02, 0x03, 0x11, 0x00, 0x00]);
+}
+
+// The fields of the simple descriptor in bytes.
+fn print_simple(bytes: &[u8]) {
+    match SimpleDescriptorFields::try_read(bytes) {
+        SimpleDescriptorRead::Descriptor(d) => print_simple_fields(d),
         SimpleDescriptorRead::Refused(why) => print::refusal(why),
     }
     print::text(b"\n");
 }
 
-fn print_simple(d: SimpleDescriptorFields) {
+// A simple descriptor's fields, each list by its place and its count.
+fn print_simple_fields(d: SimpleDescriptorFields) {
     print::byte(d.endpoint);
     print::hex(d.profile_id as u64, 4);
     print::hex(d.device_id as u64, 4);
@@ -123,16 +165,16 @@ fn print_simple(d: SimpleDescriptorFields) {
 
 // A descriptor of 28 clusters of zeros, and one of 29.
 pub(crate) fn k6() {
-    let mut out = [0xEEu8; 66];
+    let mut out = [0xEEu8; 65];
     print::text(b"K6 28 clusters");
     print::written(
         descriptor::write(1, 0x0104, 0x0302, 0x11, &[0; 28], &[], &mut out),
         &out,
     );
-    print::text(b"\nK6 29 clusters");
+    let mut out = [0xEEu8; 66];
+    print::text(b"K6 29 clusters");
     print::written(
         descriptor::write(1, 0x0104, 0x0302, 0x11, &[0; 28], &[0], &mut out),
         &out,
     );
-    print::text(b"\n");
 }

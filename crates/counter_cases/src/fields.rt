@@ -81,6 +81,7 @@ pub(crate) fn k10() {
     print::text(b"\n");
 }
 
+// Lends the array as a slice, for which its length must be known.
 fn print_buffer(buffer: &[u8; 16]) {
-    print::bytes(buffer, 16);
+    print::bytes(buffer);
 }

@@ -4,6 +4,7 @@ mod descriptors;
 mod fields;
 mod print;
 
+// Each case prints its lines.
 fn main() {
     descriptors::k1();
     descriptors::k2();

@@ -25,13 +25,10 @@ pub(crate) fn byte(byte: u8) {
     hex(byte as u64, 2);
 }
 
-// Bytes in hexadecimal, so many from the front, with a space before each.
-pub(crate) fn bytes(bytes: &[u8], count: usize) {
+// Bytes in hexadecimal, with a space before each.
+pub(crate) fn bytes(bytes: &[u8]) {
     let mut i: usize = 0;
     while i < bytes.len() {
-        if count <= i {
-            return;
-        }
         byte(bytes[i]);
         i += 1;
     }
@@ -43,10 +40,12 @@ pub(crate) fn refusal(why: Refusal) {
     io::print_decimal(STDOUT_FILENO, why.number() as u64);
 }
 
-// What a writer wrote, or why it wrote nothing.
+// How many bytes a writer wrote, or why it wrote none, and all of the buffer then. Ends the line.
 pub(crate) fn written(written: Written, buffer: &[u8]) {
     match written {
-        Written::Length(count) => bytes(buffer, count),
+        Written::Length(count) => decimal(count),
         Written::Refused(why) => refusal(why),
     }
+    bytes(buffer);
+    text(b"\n");
 }

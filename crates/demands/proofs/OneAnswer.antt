@@ -17,41 +17,41 @@ use Rattle.simple_descriptor.specs.declared.SimpleDescriptorRead.{SimpleDescrip
 use Rattle.simple_descriptor.specs.declared.SimpleDescriptorRead.the-variants as simple
 use Rattle.demands.specs.OneAnswer.{Determines, OneAnswer}
 
-written-back : (w : Written) → from written.Length written.Refused (writtenSays w) ≡ w
+written-again : (w : Written) → from written.Length written.Refused (writtenSays w) ≡ w
 unfolding writtenSays
-written-back (written.Length n) = refl
-written-back (written.Refused why) = refused-back written.Refused why
+written-again (written.Length n) = refl
+written-again (written.Refused why) = refused-back written.Refused why
 
-lists-back : (l : ClusterListsRead) → from lists.Lists lists.Refused (listsSays l) ≡ l
+lists-again : (l : ClusterListsRead) → from lists.Lists lists.Refused (listsSays l) ≡ l
 unfolding listsSays
-lists-back (lists.Lists l) = refl
-lists-back (lists.Refused why) = refused-back lists.Refused why
+lists-again (lists.Lists l) = refl
+lists-again (lists.Refused why) = refused-back lists.Refused why
 
-node-back : (d : NodeDescriptorRead) → from node.Descriptor node.Refused (nodeSays d) ≡ d
+node-again : (d : NodeDescriptorRead) → from node.Descriptor node.Refused (nodeSays d) ≡ d
 unfolding nodeSays
-node-back (node.Descriptor d) = refl
-node-back (node.Refused why) = refused-back node.Refused why
+node-again (node.Descriptor d) = refl
+node-again (node.Refused why) = refused-back node.Refused why
 
-power-back : (d : NodePowerDescriptorRead) → from power.Descriptor power.Refused (powerSays d) ≡ d
+power-again : (d : NodePowerDescriptorRead) → from power.Descriptor power.Refused (powerSays d) ≡ d
 unfolding powerSays
-power-back (power.Descriptor d) = refl
-power-back (power.Refused why) = refused-back power.Refused why
+power-again (power.Descriptor d) = refl
+power-again (power.Refused why) = refused-back power.Refused why
 
-simple-back : (d : SimpleDescriptorRead) → from simple.Descriptor simple.Refused (simpleSays d) ≡ d
+simple-again : (d : SimpleDescriptorRead) → from simple.Descriptor simple.Refused (simpleSays d) ≡ d
 unfolding simpleSays
-simple-back (simple.Descriptor d) = refl
-simple-back (simple.Refused why) = refused-back simple.Refused why
+simple-again (simple.Descriptor d) = refl
+simple-again (simple.Refused why) = refused-back simple.Refused why
 
 one-written : Determines writtenSays
-one-written = determined writtenSays written.Length written.Refused written-back
+one-written = determined writtenSays written.Length written.Refused written-again
 
 pub one-answer : OneAnswer
 one-answer =
     record {
       written = one-written;
-      lists = determined listsSays lists.Lists lists.Refused lists-back;
-      node = determined nodeSays node.Descriptor node.Refused node-back;
-      power = determined powerSays power.Descriptor power.Refused power-back;
-      simple = determined simpleSays simple.Descriptor simple.Refused simple-back;
+      lists = determined listsSays lists.Lists lists.Refused lists-again;
+      node = determined nodeSays node.Descriptor node.Refused node-again;
+      power = determined powerSays power.Descriptor power.Refused power-again;
+      simple = determined simpleSays simple.Descriptor simple.Refused simple-again;
       writer = λ o before r s after later p q. let (told, left) = one-wrote o before _ _ after later p q in (one-written r s told, left);
     }

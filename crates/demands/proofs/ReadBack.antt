@@ -27,6 +27,7 @@ use Rattle.node_power_descriptor.specs.declared.PowerSource.the-variants as sou
 use Rattle.node_power_descriptor.specs.declared.CurrentPowerSourceLevel.the-variants as level
 use Rattle.node_power_descriptor.proofs.Bits.{power-bits}
 use Rattle.simple_descriptor.specs.SimpleDescriptor.{Endpoint, simpleHeader, simpleDescriptor, clusterCount, simpleWritten, simpleWidths, simpleOf, simpleDescriptorIn, simpleFields}
+use Rattle.simple_descriptor.proofs.Written.{header-size}
 use Rattle.demands.specs.ReadBack.{NamesStand, NamesReadBack, cutNode, NodeReadsBack, cutPower, PowerReadsBack, cutEndpoint, SimpleReadsBack}
 use Rattle.demands.proofs.Frames.{one-layout}
 
@@ -104,7 +105,7 @@ simple-back e rest few =
     let header : List ℕ = laid (simpleHeader e) in
     let inputs : List ℕ = laid (listed 2 (e .«input_clusters»)) in
     let outputs : List ℕ = laid (listed 2 (e .«output_clusters»)) in
-    let long : length header ≡ 6 = rw (laid-counted, one-layout .simple e) in
+    let long : length header ≡ 6 = header-size e in
     let fields : fieldsAt simpleWidths (header ++ inputs ++ outputs ++ rest) 0 ≡ map cut (simpleHeader e) =
     rw (← one-layout .simple e, append-assoc, append-assoc) (laid-back [] (inputs ++ (outputs ++ rest)) (simpleHeader e)) in
     let lists : ListsAt (header ++ inputs ++ outputs ++ rest) 6 (e .«input_clusters») (e .«output_clusters») =

@@ -1,5 +1,4 @@
 -- The fields that share a byte stand where document 01 puts them. Assumes nothing.
-use Prim.Native.Nat.{ℕ, _/_, _%_, _^_, _<_}
 use native.Mathlib.Omega.{arith}
 use Rattle.zigbee_types.proofs.Bits.{bit-below, bit-is}
 use Rattle.node_descriptor.specs.NodeDescriptor.{nodeByte0, nodeByte1}

@@ -10,14 +10,14 @@ use Rattle.node_descriptor.specs.declared.ServerMaskFlag.the-variants.{P
 use Rattle.node_descriptor.specs.declared.DescriptorCapabilityFlag.{DescriptorCapabilityFlag}
 use Rattle.node_descriptor.specs.declared.DescriptorCapabilityFlag.the-variants.{ExtendedActiveEndpontListAvailable, ExtendedSimpleDescriptorListAvailable}
 
--- 2.3.2.3.5
+-- the bit of a flag of the frequency band field (2.3.2.3.5)
 abbrev pub frequencyBandFlag : FrequencyBandFlag → ℕ
 frequencyBandFlag Low = 0
 frequencyBandFlag Mid = 2
 frequencyBandFlag High = 3
 frequencyBandFlag EuropeanFSK = 4
 
--- 2.3.2.3.6
+-- the bit of a flag of the MAC capability flags field (2.3.2.3.6)
 abbrev pub macCapabilityFlag : MacCapabilityFlag → ℕ
 macCapabilityFlag AlternatePanCoordinator = 0
 macCapabilityFlag DeviceType = 1
@@ -26,7 +26,7 @@ macCapabilityFlag ReceiverOnWhenIdle = 3
 macCapabilityFlag SecurityCapability = 6
 macCapabilityFlag AllocateAddress = 7
 
--- 2.3.2.3.10
+-- the bit of a flag of the server mask field (2.3.2.3.10)
 abbrev pub serverMaskFlag : ServerMaskFlag → ℕ
 serverMaskFlag PrimaryTrustCenter = 0
 serverMaskFlag BackupTrustCenter = 1
@@ -36,7 +36,7 @@ serverMaskFlag PrimaryDiscoveryCache = 4
 serverMaskFlag BackupDiscoveryCache = 5
 serverMaskFlag NetworkManager = 6
 
--- the descriptor capability field
+-- the bit of a flag of the descriptor capability field
 abbrev pub descriptorCapabilityFlag : DescriptorCapabilityFlag → ℕ
 descriptorCapabilityFlag ExtendedActiveEndpontListAvailable = 0
 descriptorCapabilityFlag ExtendedSimpleDescriptorListAvailable = 1

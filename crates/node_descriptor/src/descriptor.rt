@@ -18,7 +18,7 @@ pub struct NodeDescriptorConfig {
     pub user_descriptor_available: bool,
     // Frequency band field (5 bits, 2.3.2.3.5).
     pub frequency_band: u8,
-    // MAC capability flags (2.3.2.3.6).
+    // MAC capability flags (2.3.2.3.6): bit 3 set means rx-on-when-idle.
     pub mac_capability_flags: u8,
     pub manufacturer_code: u16,
     pub maximum_buffer_size: u8,

@@ -68,7 +68,7 @@ impl LogicalType {
     }
 }
 
-// A node descriptor, as it was sent: bytes 0 and 1, which hold several fields each, and then field by field. (The Rust keeps a
+// A node descriptor, as it was sent: several fields share byte 0 and byte 1, and each other field has its own. (The Rust keeps a
 // slice of the thirteen bytes.)
 pub struct NodeDescriptor {
     pub byte0: u8,
@@ -122,7 +122,7 @@ impl NodeDescriptor {
     pub fn logical_type(self) -> LogicalType
         ensures { λ r. ⌜ r ≡ nodeFields self .«logical_type» ⌝ }
     {
-        LogicalType::from_bits(self.byte0 % 8)
+        LogicalType::from_bits(type_bits(self.byte0))
     }
 
     // Whether the node has a complex descriptor (2.3.2.3.2).
@@ -153,19 +153,21 @@ impl NodeDescriptor {
         MacCapabilities(self.mac_capability_flags)
     }
 
-    // Who made the node.
+    // The manufacturer field.
     pub fn manufacturer_code(self) -> u16
         ensures { λ r. ⌜ r ≡ nodeFields self .«manufacturer_code» ⌝ }
     {
         self.manufacturer_code
     }
 
+    // The buffer size field.
     pub fn maximum_buffer_size(self) -> u8
         ensures { λ r. ⌜ r ≡ nodeFields self .«maximum_buffer_size» ⌝ }
     {
         self.maximum_buffer_size
     }
 
+    // The incoming size field.
     pub fn maximum_incoming_transfer_size(self) -> u16
         ensures { λ r. ⌜ r ≡ nodeFields self .«maximum_incoming_transfer_size» ⌝ }
     {
@@ -179,13 +181,14 @@ impl NodeDescriptor {
         ServerMask(self.server_mask)
     }
 
+    // The outgoing size field.
     pub fn maximum_outgoing_transfer_size(self) -> u16
         ensures { λ r. ⌜ r ≡ nodeFields self .«maximum_outgoing_transfer_size» ⌝ }
     {
         self.maximum_outgoing_transfer_size
     }
 
-    // What the node's descriptors can do.
+    // The descriptor capability field.
     pub fn descriptor_capabilities(self) -> DescriptorCapabilities
         ensures { λ r. ⌜ r ≡ record { 0 = nodeFields self .«descriptor_capability_field» } ⌝ }
     {
@@ -196,6 +199,7 @@ impl NodeDescriptor {
 // Frequency band field (2.3.2.3.5): frequency bands supported by the underlying IEEE 802.15.4 radio(s).
 pub struct FrequencyBands(pub u8);
 
+// The flags of the frequency band field.
 pub enum FrequencyBandFlag {
     // 868 - 868.6 MHz
     Low,
@@ -233,6 +237,7 @@ impl FrequencyBands {
 // MAC capability flags field (2.3.2.3.6), as required by the IEEE 802.15.4-2015 MAC sub-layer.
 pub struct MacCapabilities(pub u8);
 
+// The flags of the MAC capability flags field.
 pub enum MacCapabilityFlag {
     // Set if this node is capable of becoming a PAN coordinator.
     AlternatePanCoordinator,
@@ -275,6 +280,7 @@ impl MacCapabilities {
 // Server mask field (2.3.2.3.10).
 pub struct ServerMask(pub u16);
 
+// The flags of the server mask field.
 pub enum ServerMaskFlag {
     PrimaryTrustCenter,
     BackupTrustCenter,
@@ -321,6 +327,7 @@ impl ServerMask {
 // Descriptor capability field.
 pub struct DescriptorCapabilities(pub u8);
 
+// The flags of the descriptor capability field, as the Rust spells them.
 pub enum DescriptorCapabilityFlag {
     ExtendedActiveEndpontListAvailable,
     ExtendedSimpleDescriptorListAvailable,

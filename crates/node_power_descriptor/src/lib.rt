@@ -2,22 +2,13 @@
 pub mod descriptor;
 
 use zigbee_types::Refusal;
+use zigbee_types::byte::nibble;
 use zigbee_types::byte::read_u8;
 ghost use mathlib.Core.Path.{_≡_};
 ghost use Prim.Native.Nat.{_/_, _%_};
 ghost use Rattle.node_power_descriptor.specs.PowerDescriptor.{modeNumber, modeBits, currentPowerMode, sourceNumber, sourceBits, powerSource, levelNumber, levelBits, currentPowerSourceLevel, sourceBitmap, powerDescriptorIn, powerSays, powerFields, supports, usable};
 
 pub(crate) const NODE_POWER_DESCRIPTOR_SIZE: usize = 2;
-
-// Every field of the node power descriptor is 4 bits wide.
-const NIBBLE: u8 = 0b1111;
-
-// The low four bits.
-fn nibble(x: u8) -> u8
-    ensures { λ r. ⌜ r ≡ x % 16 ⌝ }
-{
-    x & NIBBLE
-}
 
 // The two bytes of a node power descriptor. (The Rust keeps a slice of them.)
 pub struct NodePowerDescriptor {
@@ -67,7 +58,7 @@ impl NodePowerDescriptor {
     pub fn current_power_mode(self) -> CurrentPowerMode
         ensures { λ r. ⌜ r ≡ powerFields self .«current_power_mode» ⌝ }
     {
-        CurrentPowerMode::from_bits(self.byte0 % 16)
+        CurrentPowerMode::from_bits(nibble(self.byte0))
     }
 
     // Whether the node declares a power source as available (2.3.2.4.2).
@@ -88,7 +79,7 @@ impl NodePowerDescriptor {
     pub fn current_power_source(self) -> PowerSource
         ensures { λ r. ⌜ r ≡ powerFields self .«current_power_source» ⌝ }
     {
-        PowerSource::from_bits(self.byte1 % 16)
+        PowerSource::from_bits(nibble(self.byte1))
     }
 
     // Charge level of that source (2.3.2.4.4).

@@ -40,8 +40,8 @@ pub(crate) fn answer(line: &[u8], space: &mut [u8], out: &mut [u8], at: usize) -
     match asked(line) {
         Question::Write => write(line, space, out, at),
         Question::TryRead => try_read(line, space, out, at),
-        Question::Accessors => accessors(words::word_of(line, 1), out, at),
-        Question::Supports => supports(line, out, at),
+        Question::Accessors => accessors(line, space, out, at),
+        Question::Supports => supports(line, space, out, at),
         Question::Other => at,
     }
 }
@@ -74,12 +74,12 @@ fn try_read(line: &[u8], space: &mut [u8], out: &mut [u8], at: usize) -> usize {
     }
 }
 
-// Puts the power that the descriptor of a word's bytes says. Less than two bytes are no question.
-fn accessors(word: &[u8], out: &mut [u8], at: usize) -> usize {
-    if word.len() < 4 {
+// Puts the power that a descriptor says: behind the question's name stand BYTES. Less than two are no question.
+fn accessors(line: &[u8], space: &mut [u8], out: &mut [u8], at: usize) -> usize {
+    if words::word_of(line, 1).len() < 4 {
         return at;
     }
-    let descriptor = descriptor_of(word);
+    let descriptor = descriptor_of(line, space);
     let at = out::hex_u16(out, at, values::of_mode(descriptor.current_power_mode()));
     let at = out::hex_u16(
         out,
@@ -95,12 +95,11 @@ fn accessors(word: &[u8], out: &mut [u8], at: usize) -> usize {
 
 // Puts whether a descriptor has a source available: behind the question's name stand BYTES NAMED. Less than two bytes are no
 // question.
-fn supports(line: &[u8], out: &mut [u8], at: usize) -> usize {
-    let word = words::word_of(line, 1);
-    if word.len() < 4 {
+fn supports(line: &[u8], space: &mut [u8], out: &mut [u8], at: usize) -> usize {
+    if words::word_of(line, 1).len() < 4 {
         return at;
     }
-    let descriptor = descriptor_of(word);
+    let descriptor = descriptor_of(line, space);
     out::flag(
         out,
         at,
@@ -108,8 +107,17 @@ fn supports(line: &[u8], out: &mut [u8], at: usize) -> usize {
     )
 }
 
-// The descriptor of a word's first two bytes, which may be such as are not read.
-fn descriptor_of(word: &[u8]) -> NodePowerDescriptor {
+// The descriptor that is read from the BYTES behind the name of a question, or made of the first two where they are refused.
+fn descriptor_of(line: &[u8], space: &mut [u8]) -> NodePowerDescriptor {
+    let count = words::bytes_in(line, 1, space);
+    match NodePowerDescriptor::try_read(&space[0..count]) {
+        NodePowerDescriptorRead::Descriptor(descriptor) => descriptor,
+        NodePowerDescriptorRead::Refused(_) => made_of(words::word_of(line, 1)),
+    }
+}
+
+// The descriptor of a word's first two bytes.
+fn made_of(word: &[u8]) -> NodePowerDescriptor {
     NodePowerDescriptor {
         byte0: words::u8_at(word, 0),
         byte1: words::u8_at(word, 1),

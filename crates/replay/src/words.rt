@@ -217,16 +217,7 @@ pub(crate) fn u16_in(line: &[u8], word: usize) -> u16 {
 pub(crate) fn bytes_in(line: &[u8], word: usize, space: &mut [u8]) -> usize
     ensures { λ r. ⌜ r ≤ length (now (space .exit)) ⌝ }
 {
-    let digits = word_of(line, word);
-    let mut i: usize = 0;
-    while i < space.len() {
-        if digits.len() / 2 <= i {
-            return i;
-        }
-        space[i] = u8_at(digits, i);
-        i += 1;
-    }
-    i
+    last_in(word_of(line, word), 1, space)
 }
 
 // Puts the numbers of the named values in a word of a line, of names and of reserved values alike, at the front of a slice, as
@@ -234,13 +225,23 @@ pub(crate) fn bytes_in(line: &[u8], word: usize, space: &mut [u8]) -> usize
 pub(crate) fn numbers_in(line: &[u8], word: usize, space: &mut [u8]) -> usize
     ensures { λ r. ⌜ r ≤ length (now (space .exit)) ⌝ }
 {
-    let digits = word_of(line, word);
+    last_in(word_of(line, word), 2, space)
+}
+
+// Puts the last byte of each part of a word, parts of one byte or of two, at the front of a slice, as many as it has room for,
+// and answers how many they are.
+fn last_in(word: &[u8], width: usize, space: &mut [u8]) -> usize
+    requires { ⌜ (1 ≤ width) × (width ≤ 2) ⌝ }
+    ensures { λ r. ⌜ r ≤ length (now (space .exit)) ⌝ }
+{
+    let mut at = width - 1;
     let mut i: usize = 0;
     while i < space.len() {
-        if digits.len() / 4 <= i {
+        if word.len() / 2 <= at {
             return i;
         }
-        space[i] = u8_at(digits, 2 * i + 1);
+        space[i] = u8_at(word, at);
+        at += width;
         i += 1;
     }
     i

@@ -23,7 +23,7 @@ pub clusters-moved : (cs : List ℕ) {s t : List ℕ} {at n : ℕ} → FieldsPut
 clusters-moved cs p = omega (arith, p .moved, length-listed 2 cs)
 
 -- the fields in front have six bytes
-header-size : (e : Endpoint) → length (laid (simpleHeader e)) ≡ 6
+pub header-size : (e : Endpoint) → length (laid (simpleHeader e)) ≡ 6
 unfolding simpleHeader laid le
 header-size e = refl
 

@@ -1,10 +1,9 @@
 // The writer of a simple descriptor (000, `EndpointDescriptor::write`; 2.3.2.5).
-use crate::version_bits;
 use zigbee_types::Refusal;
 use zigbee_types::Written;
+use zigbee_types::byte::nibble;
 use zigbee_types::byte::write_u8;
 use zigbee_types::byte::write_u16;
-ghost use mathlib.Core.Path.{_≡_};
 ghost use Prim.Native.Nat.{_+_, _*_, _≤_};
 ghost use lib.ListN.{length};
 ghost use Rattle.zigbee_types.specs.Outcome.{Wrote};
@@ -38,7 +37,7 @@ pub fn write(
     let at = write_u8(out, 0, endpoint);
     let at = write_u16(out, at, profile_id);
     let at = write_u16(out, at, device_id);
-    let at = write_u8(out, at, version_bits(device_version));
+    let at = write_u8(out, at, nibble(device_version));
     let at = write_clusters(out, at, input_clusters);
     let at = write_clusters(out, at, output_clusters);
     Written::Length(at)

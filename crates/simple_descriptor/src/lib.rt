@@ -5,20 +5,14 @@ use zigbee_types::ClusterLists;
 use zigbee_types::ClusterListsRead;
 use zigbee_types::Places;
 use zigbee_types::Refusal;
+use zigbee_types::byte::nibble;
 use zigbee_types::byte::read_u8;
 use zigbee_types::byte::read_u16;
 ghost use mathlib.Core.Path.{_≡_};
-ghost use Prim.Native.Nat.{_%_, _≤_};
+ghost use Prim.Native.Nat.{_≤_};
 ghost use lib.ListN.{length};
 ghost use Rattle.zigbee_types.specs.Layout.{fieldOf};
 ghost use Rattle.simple_descriptor.specs.SimpleDescriptor.{simpleWidths, simpleOf, simpleDescriptorIn, simpleSays};
-
-// The four bits of a device version.
-pub(crate) fn version_bits(x: u8) -> u8
-    ensures { λ r. ⌜ r ≡ x % 16 ⌝ }
-{
-    x & 0x0f
-}
 
 // A simple descriptor's fields, its two cluster lists as places in the bytes that it was read from.
 pub struct SimpleDescriptorFields {
@@ -64,7 +58,7 @@ impl SimpleDescriptorFields {
             endpoint: endpoint.value,
             profile_id: profile_id.value,
             device_id: device_id.value,
-            device_version: version_bits(device_version.value),
+            device_version: nibble(device_version.value),
             input_clusters,
             output_clusters,
         }

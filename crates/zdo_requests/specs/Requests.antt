@@ -4,7 +4,7 @@ use Prim.Native.Nat.{ℕ}
 use mathlib.Core.Bool.{cond}
 use mathlib.Core.List.{List, [], _∷_}
 use lib.Dec.{eqb}
-use Rattle.zigbee_types.specs.Outcome.{Outcome, answer, refusal, mapped, needing}
+use Rattle.zigbee_types.specs.Outcome.{Outcome, answer, refusal, mapped}
 use Rattle.zigbee_types.specs.Bytes.{numberAt, bitAt}
 use Rattle.zigbee_types.specs.Layout.{Field, byte, laid, fieldOf, parsed, listsIn}
 use Rattle.zigbee_types.specs.Addresses.{short, ieeeOf, shortOf, groupOf}

@@ -1,10 +1,10 @@
 -- Bits of numbers: flags as bits, numbers by their bits, operations bit by bit, and what a mask takes out. Each law is over the
 -- bit's number. Assumes nothing.
 use Prim.Native.Nat.{ℕ, zero, suc, _+_, _-_, _*_, _/_, _%_, _^_, _≤_, _<_}
-use native.Mathlib.Nat.{zero-add, suc-add, one-mul, zero-mul, mod-eq-of-lt, mod-lt, mod-one, zero-div, div-one, div-eq-of-lt, lt-of-lt-of-le, two-pow-succ}
+use native.Mathlib.Nat.{zero-add, suc-add, one-mul, zero-mul, mod-eq-of-lt, mod-one, zero-div, div-one, div-eq-of-lt, lt-of-lt-of-le, two-pow-succ}
 use native.Mathlib.Numerals.{add-one}
 use native.Mathlib.Omega.{arith}
-use mathlib.Core.Path.{_≡_, refl, sym}
+use mathlib.Core.Path.{_≡_, refl}
 use mathlib.Core.Bool.{Bool, true, false, not, _||_, _&&_}
 use lib.Dec.{eqb, ltb, leb·zero, leb·suc-zero, leb·suc-suc}
 use lib.Bits.{bitAnd, bitOr, and-high, and-shr, and-mod, or-shr, or-mod}

@@ -1,9 +1,8 @@
 -- Two counted lists in a frame: where they stand, and why they are refused. Assumes nothing.
 use Prim.Native.Nat.{ℕ, _+_, _*_, _≤_, _<_}
 use native.Mathlib.Omega.{arith}
-use mathlib.Core.Path.{_≡_, refl}
+use mathlib.Core.Path.{_≡_, refl, sym}
 use mathlib.Core.List.{List}
-use mathlib.Core.Bool.{Bool, true, false}
 use lib.Dec.{leb}
 use lib.ListN.{length}
 use borrow.Author.Tests.{leb-true, le-leb, lt-leb}
@@ -15,6 +14,7 @@ use Rattle.zigbee_types.specs.declared.Refusal.the-variants.{Malformed}
 use Rattle.zigbee_types.specs.declared.Places.{Places}
 use Rattle.zigbee_types.specs.declared.ClusterLists.{ClusterLists}
 use Rattle.zigbee_types.specs.declared.ClusterListsRead.the-variants.{Lists, Refused}
+use Rattle.zigbee_types.proofs.Outcomes.{granted}
 
 -- a byte that was read counts the list behind it
 pub list-counted :
@@ -63,14 +63,8 @@ module _ (bytes : List ℕ) (at : ℕ) where
   -- so the counts of lists that were read are there
   pub lists-long : (lists : ClusterLists) → listsSays (Lists lists) ≡ listsIn bytes at → at + 2 ≤ length bytes
   unfolding listsSays listsIn needing
-  lists-long lists h = go (leb last (length bytes)) refl
-    where
-      first : ℕ
-      first = behind 2 (counted bytes at)
-
-      last : ℕ
-      last = behind 2 (counted bytes first)
-
-      go : (b : Bool) → leb last (length bytes) ≡ b → at + 2 ≤ length bytes
-      go true e = omega (arith, leb-true last (length bytes) e, list-past 2 (list-there 2 bytes at), list-past 2 (list-there 2 bytes first))
-      go false e = let z : _≡_ {A = ℕ} 0 1 = cc in absurd (omega arith)
+  lists-long lists h =
+      let first : ℕ = behind 2 (counted bytes at) in
+      let last : ℕ = behind 2 (counted bytes first) in
+      let (held, _) = granted (leb last (length bytes)) _ 3 (sym h) in
+      omega (arith, leb-true last (length bytes) held, list-past 2 (list-there 2 bytes at), list-past 2 (list-there 2 bytes first))

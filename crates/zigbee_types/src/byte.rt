@@ -1,7 +1,7 @@
-// Little-endian fields at a place of a slice (document 01, module 1). A field of more than one byte is two halves, the low
-// half first. Each function hands back the place behind what it read or put, where the next field begins.
+// Little-endian fields at a place of a slice (document 01, module 1), and bits of a number. A field of more than one byte is two
+// halves, the low half first; what reads or puts one hands back the place behind it, where the next field begins.
 ghost use mathlib.Core.Path.{_≡_};
-ghost use Prim.Native.Nat.{_+_, _*_, _≤_};
+ghost use Prim.Native.Nat.{_+_, _*_, _%_, _≤_};
 ghost use lib.ListN.{length};
 ghost use Rattle.zigbee_types.specs.Bytes.{bitAt, FieldRead, FieldPut};
 
@@ -144,4 +144,11 @@ pub fn bit_at(i: u8, x: u16) -> bool
         return false;
     }
     (x & (1 << i)) != 0
+}
+
+// The low four bits of a byte.
+pub fn nibble(x: u8) -> u8
+    ensures { λ r. ⌜ r ≡ x % 16 ⌝ }
+{
+    x & 0b1111
 }

@@ -6,10 +6,10 @@ use Rattle.counter_cases.proofs.print.bytes.Statement.{statement}
 use Rattle.counter_cases.proofs.print.bytes.Tie as tie
 
 abbrev Inv-loop : tie.InvT-loop
-Inv-loop bytes count i₀ i = i ≤ length bytes
+Inv-loop bytes i₀ i = i ≤ length bytes
 
 abbrev μ-loop : tie.MeasureT-loop
-μ-loop bytes count i₀ i = length bytes - i
+μ-loop bytes i₀ i = length bytes - i
 
 pub bytes-spec : {M : Type 1} → statement M
 bytes-spec =
@@ -18,10 +18,9 @@ bytes-spec =
     Inv-loop
     μ-loop
     (λ c. search needs)  -- loop-holds
-    (λ c. search needs)  -- returns
     (λ c. search needs)  -- shared-slice-read-byte
     (λ c κs. search needs)  -- byte-requires
     (λ c. search needs)  -- add-i
     (λ c. search needs)  -- loop-less
     (λ c. search needs)  -- loop-again
-    (λ c. search needs))  -- returns-2
+    (λ c. search needs))  -- returns

@@ -1,5 +1,5 @@
 -- `text` is safe and ends: it goes through the characters from the front, and the slice keeps its length. Assumes nothing.
-use Prim.Native.Nat.{_≤_, _-_}
+use Prim.Native.Nat.{_-_}
 use mathlib.Core.Path.{_≡_}
 use borrow.Author.Needs.{needs}
 use lib.ListN.{length}

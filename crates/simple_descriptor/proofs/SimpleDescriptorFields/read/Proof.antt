@@ -12,5 +12,5 @@ read-spec =
     (λ c κs. search needs)  -- read-u16-requires
     (λ c κs. search needs)  -- read-u16-requires-2
     (λ c κs. search needs)  -- read-u8-requires-2
-    (λ c κs. search needs)  -- version-bits-requires
+    (λ c κs. search needs)  -- nibble-requires
     (λ c. search front-read))  -- returns

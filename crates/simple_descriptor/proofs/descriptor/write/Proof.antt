@@ -21,7 +21,7 @@ answers c =
     (endpoint .write-u8 .ensures)
     (profile .write-u16 .ensures)
     (device .write-u162 .ensures)
-    (version .before .version-bits .ensures)
+    (version .before .nibble .ensures)
     (version .write-u82 .ensures))
     (inputs .write-clusters .ensures)
     (outputs .write-clusters2 .ensures)
@@ -38,7 +38,7 @@ write-spec =
     (λ c κs. search needs)  -- write-u8-requires
     (λ c κs. search needs)  -- write-u16-requires
     (λ c κs. search needs)  -- write-u16-requires-2
-    (λ c κs. search needs)  -- version-bits-requires
+    (λ c κs. search needs)  -- nibble-requires
     (λ c κs. search needs)  -- write-u8-requires-2
     (λ c κs. search needs)  -- write-clusters-requires
     (λ c κs. let h = clusters-moved _ (c .before .before .before .write-clusters .ensures) in search needs)  -- write-clusters-requires-2

@@ -1,7 +1,7 @@
 -- `nibble` is the number modulo 16. Assumes nothing.
 use lib.Bits.{and-mask}
-use Rattle.node_power_descriptor.proofs.nibble.Statement.{statement}
-use Rattle.node_power_descriptor.proofs.nibble.Tie as tie
+use Rattle.zigbee_types.proofs.byte.nibble.Statement.{statement}
+use Rattle.zigbee_types.proofs.byte.nibble.Tie as tie
 
 pub nibble-spec : {M : Type 1} → statement M
 nibble-spec = tie.close (tie.spec (λ c. and-mask (c .args .x) 4))
