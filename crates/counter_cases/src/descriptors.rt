@@ -1,5 +1,5 @@
-// The descriptors of document 01's device in K1 to K6, and descriptors that are refused. Buffers hold 0xEE before, and one byte
-// more than what is written has, so that what is left alone shows.
+// The descriptors in K1 to K6, mostly of document 01's device, and those of nos. 3 and 4 of docs/DIFFERENCES.md. A buffer that is
+// printed held 0xEE before, and one that is written has a byte to spare, so that what is left alone shows.
 use crate::print;
 use node_descriptor::LogicalType;
 use node_descriptor::NodeDescriptor;
@@ -59,7 +59,7 @@ pub(crate) fn k2() {
     print::text(b"K2");
     print_revision(&out);
     print::text(b"K2 12 bytes");
-    print_revision(&[0u8; 12]);
+    print_revision(&out[0..12]);
 }
 
 // The stack revision of the node descriptor in bytes.
@@ -163,7 +163,7 @@ fn print_simple_fields(d: SimpleDescriptorFields) {
     print::decimal(d.output_clusters.count);
 }
 
-// A descriptor of 28 clusters of zeros, and one of 29.
+// A descriptor of 28 clusters of zeros, and one of 29, for which there is room.
 pub(crate) fn k6() {
     let mut out = [0xEEu8; 65];
     print::text(b"K6 28 clusters");

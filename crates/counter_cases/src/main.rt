@@ -1,10 +1,10 @@
-// The program of counter-cases: runs the library on inputs of document 01 and prints what it gives. Its file stdout has what
-// document 01 says. Today: the descriptors in K1 to K6, and the fields of K10's bind request, read and put back.
+// The program of counter-cases: runs the library on inputs of document 01 and of docs/DIFFERENCES.md, and prints what it gives.
+// Its file stdout has what document 01 says. Today: the descriptors in K1 to K6, and the fields of K10's bind request, read and put back.
 mod descriptors;
 mod fields;
 mod print;
 
-// Each case prints its lines.
+// Runs the cases in their order.
 fn main() {
     descriptors::k1();
     descriptors::k2();

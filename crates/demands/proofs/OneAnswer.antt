@@ -1,4 +1,4 @@
--- Each enum that is an answer or a refusal comes back from what it says. Assumes nothing.
+-- Each enum that holds an answer or a refusal comes back from what it says. Assumes nothing.
 use mathlib.Core.Path.{_≡_, refl}
 use Rattle.zigbee_types.specs.Answers.{writtenSays, listsSays}
 use Rattle.zigbee_types.specs.declared.Written.{Written}

@@ -1,4 +1,5 @@
--- A descriptor that was written reads back with its fields cut to their widths. Assumes nothing.
+-- Named values have their numbers, and a descriptor that was written reads back with its fields cut to their widths. Assumes
+-- nothing.
 use Prim.Native.Nat.{ℕ, _%_, _≤_}
 use native.Mathlib.Omega.{arith}
 use mathlib.Core.Path.{_≡_, refl}
@@ -12,7 +13,7 @@ use Rattle.zigbee_types.specs.Layout.{laid, cut, size, fieldsAt, listed}
 use Rattle.zigbee_types.specs.Lists.{find, option}
 use Rattle.zigbee_types.specs.Named.{named}
 use Rattle.zigbee_types.specs.FieldLaws.{ListsAt}
-use Rattle.zigbee_types.proofs.Layouts.{laid-counted, laid-back, parses, lists-back}
+use Rattle.zigbee_types.proofs.Layouts.{laid-back, parses, lists-back}
 use Rattle.zigbee_types.proofs.Runs.{laid-append}
 use Rattle.zigbee_types.proofs.Named.{named-number}
 use Rattle.zigbee_types.proofs.Outcomes.{granted, mapped-granted, wrote-bytes, wrote-answer}

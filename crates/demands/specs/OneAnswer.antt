@@ -1,4 +1,4 @@
--- An enum that is an answer or a refusal is determined by what it says, as a statement: a contract about what it says leaves one
+-- An enum that holds an answer or a refusal is determined by what it says, as a statement: a contract about what it says leaves one
 -- answer. A term of it stands in proofs/.
 use Prim.Native.Nat.{ℕ}
 use mathlib.Core.Path.{_≡_}
@@ -14,7 +14,7 @@ use Rattle.simple_descriptor.specs.SimpleDescriptor.{simpleSays}
 abbrev pub Determines : {A B : Type 0} → (A → B) → Type 0
 Determines {A} says = (a b : A) → says a ≡ says b → a ≡ b
 
--- so is each enum that is an answer or a refusal, and with it what a writer answers and leaves in the buffer
+-- so it is with each enum that holds an answer or a refusal; and a writer's contract determines its answer and the buffer
 pub record OneAnswer : Type 0 where
   pub written : Determines writtenSays
   pub lists : Determines listsSays

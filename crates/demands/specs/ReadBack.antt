@@ -1,5 +1,5 @@
--- What a descriptor's writer wrote is read as the fields that it was given, cut to their widths, as statements (document 01,
--- modules 2 to 4). A term of each stands in proofs/.
+-- What numbers stand for in fields of named values, and that what a descriptor's writer wrote is read as the fields that it was
+-- given, cut to their widths, as statements (document 01, modules 2 to 4). A term of each stands in proofs/.
 use Prim.Native.Nat.{ℕ, _%_}
 use mathlib.Core.Path.{_≡_}
 use mathlib.Core.Bool.{cond}
@@ -19,12 +19,13 @@ use Rattle.simple_descriptor.specs.SimpleDescriptor.{Endpoint, simpleWritten, s
 -- ---- named values
 
 -- a field of named and reserved values: what a number stands for has that number, and each of the names is what its own number
--- stands for. So any other number stands for a reserved value.
+-- stands for
 pub record NamesStand {A : Type 0} (number : A → ℕ) (value : ℕ → A) (names : List A) : Type 0 where
   pub numbers : (n : ℕ) → number (value n) ≡ n
   pub named : map (λ a. value (number a)) names ≡ names
 
--- of each such field
+-- so it is with each such field, and the list has every value but the reserved ones: a number that no name has stands for the
+-- reserved value that holds it
 pub record NamesReadBack : Type 0 where
   pub types : NamesStand typeNumber logicalType (type.Coordinator ∷ type.Router ∷ type.EndDevice ∷ [])
   pub modes : NamesStand modeNumber currentPowerMode (mode.Synchronized ∷ mode.Periodically ∷ mode.Stimulated ∷ [])

@@ -68,8 +68,8 @@ impl LogicalType {
     }
 }
 
-// A node descriptor, as it was sent: several fields share byte 0 and byte 1, and each other field has its own. (The Rust keeps a
-// slice of the thirteen bytes.)
+// A node descriptor, as it was sent: several fields share byte 0 and byte 1, and each other field has bytes of its own. (The
+// Rust keeps a slice of the thirteen bytes.)
 pub struct NodeDescriptor {
     pub byte0: u8,
     pub byte1: u8,

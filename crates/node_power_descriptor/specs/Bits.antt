@@ -25,7 +25,7 @@ PowerBitsStand = (p : PowerDescriptorConfig) → PowerBits p
 abbrev pub BitmapUnion : Type 0
 BitmapUnion = (i : ℕ) (xs : List ℕ) → bitAt i (sourceBitmap xs) ≡ (ltb i 4 && any (bitAt i) xs)
 
--- document 01, module 3: of the current sources 1, 2 and 4 the reader takes each whose bit is among the available, and no other
+-- document 01, module 3: a current source is usable exactly if it is 1, 2 or 4 and its bit is among the available
 pub record UsableSources : Type 0 where
   pub named : (available : ℕ) → map (usable available) (1 ∷ 2 ∷ 4 ∷ []) ≡ bitAt 0 available ∷ bitAt 1 available ∷ bitAt 2 available ∷ []
   pub others : (available current : ℕ) → (current ≡ 1 → ⊥) → (current ≡ 2 → ⊥) → (current ≡ 4 → ⊥) → usable available current ≡ false

@@ -74,7 +74,7 @@ fn try_read(line: &[u8], space: &mut [u8], out: &mut [u8], at: usize) -> usize {
     }
 }
 
-// Puts the power that a descriptor says: behind the question's name stand BYTES. Less than two are no question.
+// Puts the power that a descriptor says: behind the question's name stand BYTES. Fewer than two are no question.
 fn accessors(line: &[u8], space: &mut [u8], out: &mut [u8], at: usize) -> usize {
     if words::word_of(line, 1).len() < 4 {
         return at;
@@ -93,7 +93,7 @@ fn accessors(line: &[u8], space: &mut [u8], out: &mut [u8], at: usize) -> usize 
     )
 }
 
-// Puts whether a descriptor has a source available: behind the question's name stand BYTES NAMED. Less than two bytes are no
+// Puts whether a descriptor has a source available: behind the question's name stand BYTES NAMED. Fewer than two bytes are no
 // question.
 fn supports(line: &[u8], space: &mut [u8], out: &mut [u8], at: usize) -> usize {
     if words::word_of(line, 1).len() < 4 {
