@@ -1,1 +1,4 @@
 pub mod Places
+pub mod Shift
+pub mod Search
+pub mod Links

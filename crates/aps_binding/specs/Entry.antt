@@ -17,12 +17,12 @@ abbrev pub DEVICE : ℕ
 DEVICE = 0x03
 
 -- an endpoint's cluster is bound to a group
-unfoldable pub groupBinding : ℕ → ℕ → GroupAddress → Binding
+abbrev pub groupBinding : ℕ → ℕ → GroupAddress → Binding
 groupBinding endpoint cluster g =
     record { «dst_ieee» = ieeeOf 0; «cluster_id» = cluster; «src_endpoint» = endpoint; «dst_addr_mode» = GROUP; «dst_group» = g; «dst_endpoint» = 0 }
 
 -- an endpoint's cluster is bound to an endpoint of a device
-unfoldable pub deviceBinding : ℕ → ℕ → IeeeAddress → ℕ → Binding
+abbrev pub deviceBinding : ℕ → ℕ → IeeeAddress → ℕ → Binding
 deviceBinding endpoint cluster a to =
     record { «dst_ieee» = a; «cluster_id» = cluster; «src_endpoint» = endpoint; «dst_addr_mode» = DEVICE; «dst_group» = groupOf 0; «dst_endpoint» = to }
 
@@ -31,7 +31,7 @@ unfoldable pub unused : Binding
 unused = groupBinding 0 0 (groupOf 0)
 
 -- does an entry route traffic of this endpoint and cluster?
-unfoldable pub routes : Binding → ℕ → ℕ → Bool
+abbrev pub routes : Binding → ℕ → ℕ → Bool
 routes b endpoint cluster = eqb (b .«src_endpoint») endpoint && eqb (b .«cluster_id») cluster
 
 -- what tells entries apart, the number that differs most often first

@@ -1,4 +1,5 @@
 pub mod Entry
 pub mod Held
 pub mod Table
+pub mod Answers
 pub mod Places

@@ -1,10 +1,11 @@
 -- The binding table: thirty-two places held by value, with a limit and a count (document 01, "Device tables and sizes").
 use Prim.Native.Nat.{ℕ, _-_, max}
+use mathlib.Core.Path.{_≡_}
 use mathlib.Core.Bool.{Bool, _&&_, cond}
 use mathlib.Core.List.{List, _++_}
 use lib.Dec.{leb}
 use lib.ListN.{length, take, drop, replicate}
-use Rattle.zigbee_types.specs.Outcome.{Outcome, answer, refusal}
+use Rattle.zigbee_types.specs.Outcome.{Outcome, answer, refusal, mapped}
 use Rattle.aps_binding.specs.Entry.{unused}
 use Rattle.aps_binding.specs.Held.{Step, bound, unbound}
 use Rattle.aps_binding.specs.declared.binding.Binding.{Binding}
@@ -14,10 +15,13 @@ use Rattle.aps_binding.specs.declared.binding.BindingTable.{BindingTable
 unfoldable pub emptyTable : ℕ → BindingTable
 emptyTable limit = record { entries = replicate 32 unused; limit = limit; count = 0 }
 
--- refusal 1 is given for any other: the count is within the limit, and the limit within the places. What stands in unused
--- places does not matter.
+-- the count is within the limit, and the limit within the places
+abbrev pub goodSizes : ℕ → ℕ → Bool
+goodSizes count limit = leb count limit && leb limit 32
+
+-- refusal 1 is given for any other. What stands in unused places does not matter.
 unfoldable pub goodTable : BindingTable → Bool
-goodTable t = leb (t .count) (t .limit) && leb (t .limit) 32
+goodTable t = goodSizes (t .count) (t .limit)
 
 -- the entries in use
 unfoldable pub held : BindingTable → List Binding
@@ -33,21 +37,24 @@ placed t xs =
       count = length xs;
     }
 
--- a status, and the table after it
-pub record Linked : Type 0 where
-  pub table : BindingTable
-  pub status : ℕ
-
--- what a step on the entries in use makes of the table; refusal 1 for a table that is not good
-unfoldable pub linked : BindingTable → (List Binding → Step) → Outcome Linked
-linked t step =
-    let s = step (held t) in
-    cond (goodTable t) (answer (record { table = placed t (s .entries); status = s .status })) (refusal 1)
+-- what a step on the entries in use comes to; refusal 1 for a table that is not good
+unfoldable pub onGood : BindingTable → Step → Outcome Step
+onGood t s = cond (goodTable t) (answer s) (refusal 1)
 
 -- `create_binding_link`
-unfoldable pub createBindingLink : BindingTable → Binding → Outcome Linked
-createBindingLink t b = linked t (λ xs. bound (t .limit) xs b)
+unfoldable pub createBindingLink : BindingTable → Binding → Outcome Step
+createBindingLink t b = onGood t (bound (t .limit) (held t) b)
 
 -- `remove_binding_link`
-unfoldable pub removeBindingLink : BindingTable → Binding → Outcome Linked
-removeBindingLink t b = linked t (λ xs. unbound xs b)
+unfoldable pub removeBindingLink : BindingTable → Binding → Outcome Step
+removeBindingLink t b = onGood t (unbound (held t) b)
+
+-- the table after it: the entries then held are placed; a refusal leaves it as it was
+unfoldable pub tableLeft : BindingTable → Outcome Step → BindingTable
+tableLeft t (answer s) = placed t (s .entries)
+tableLeft t (refusal n) = t
+
+-- a call that comes to o on the table t: its status is told, or a refusal, and u is the table after it
+pub record Leaves (o : Outcome Step) (t : BindingTable) (told : Outcome ℕ) (u : BindingTable) : Type 0 where
+  pub said : told ≡ mapped (λ s. s .status) o
+  pub left : u ≡ tableLeft t o

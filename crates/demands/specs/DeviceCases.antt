@@ -3,10 +3,13 @@
 use Prim.Native.Nat.{ℕ}
 use mathlib.Core.List.{List, [], _∷_, map}
 use lib.ListN.{length, take, replicate}
-use Rattle.zigbee_types.specs.Outcome.{answer, refusal, mapped, begunLength, begun}
+use Rattle.zigbee_types.specs.Outcome.{Outcome, answer, refusal, mapped, begunLength, begun}
 use Rattle.zigbee_types.specs.Addresses.{ieeeOf, shortOf}
 use Rattle.aps_binding.specs.Entry.{deviceBinding, unused, key}
-use Rattle.aps_binding.specs.Table.{Linked, emptyTable, createBindingLink, removeBindingLink}
+use Rattle.aps_binding.specs.Held.{Step}
+use Rattle.aps_binding.specs.Table.{emptyTable, createBindingLink, removeBindingLink, tableLeft}
+use Rattle.aps_binding.specs.declared.binding.Binding.{Binding}
+use Rattle.aps_binding.specs.declared.binding.BindingTable.{BindingTable}
 use Rattle.zdo_requests.specs.declared.descriptor.MatchDescReq.{MatchDescReq}
 use Rattle.zdo_replies.specs.Replies.{listRsp}
 use Rattle.zdo_device.specs.Tables.{endpointClusters}
@@ -169,9 +172,11 @@ TableChecks =
           ∷ [];
     }
 
--- a step's status, then the count, the limit and the key of the first entry
-abbrev pub linkNumbers : Linked → List ℕ
-linkNumbers l = l .status ∷ l .table .count ∷ l .table .limit ∷ joined (map key (take 1 (l .table .entries)))
+-- the status that a call tells, then the count, the limit and the key of the first entry of the table that it leaves
+abbrev pub linkNumbers : (BindingTable → Binding → Outcome Step) → BindingTable → Binding → Outcome (List ℕ)
+linkNumbers call t b =
+    let u = tableLeft t (call t b) in
+    mapped (λ s. s .status ∷ u .count ∷ u .limit ∷ joined (map key (take 1 (u .entries)))) (call t b)
 
 -- of tables of zeros, some of them held in four: a device binding is bound with room, in a full table and in an empty one; the
 -- group binding of zeros is bound with a limit of 33, and unbound where it is held, where nothing is, and with a count above
@@ -180,14 +185,14 @@ unfoldable pub Links : Case
 Links =
     record {
       says =
-          mapped linkNumbers (createBindingLink (counting 2 1) (deviceBinding 1 0x0402 (ieeeOf 9) 2))
-          ∷ mapped linkNumbers (createBindingLink (counting 1 1) (deviceBinding 1 0x0402 (ieeeOf 9) 2))
-          ∷ mapped linkNumbers (createBindingLink (emptyTable 1) (deviceBinding 1 0x0402 (ieeeOf 9) 2))
-          ∷ mapped linkNumbers (createBindingLink (emptyTable 1) unused)
-          ∷ mapped linkNumbers (createBindingLink (emptyTable 33) unused)
-          ∷ mapped linkNumbers (removeBindingLink (counting 1 1) unused)
-          ∷ mapped linkNumbers (removeBindingLink (emptyTable 1) unused)
-          ∷ mapped linkNumbers (removeBindingLink (counting 1 2) unused)
+          linkNumbers createBindingLink (counting 2 1) (deviceBinding 1 0x0402 (ieeeOf 9) 2)
+          ∷ linkNumbers createBindingLink (counting 1 1) (deviceBinding 1 0x0402 (ieeeOf 9) 2)
+          ∷ linkNumbers createBindingLink (emptyTable 1) (deviceBinding 1 0x0402 (ieeeOf 9) 2)
+          ∷ linkNumbers createBindingLink (emptyTable 1) unused
+          ∷ linkNumbers createBindingLink (emptyTable 33) unused
+          ∷ linkNumbers removeBindingLink (counting 1 1) unused
+          ∷ linkNumbers removeBindingLink (emptyTable 1) unused
+          ∷ linkNumbers removeBindingLink (counting 1 2) unused
           ∷ [];
       expected =
           answer (0x00 ∷ 2 ∷ 2 ∷ 0 ∷ 0 ∷ 0 ∷ 0 ∷ 0 ∷ 1 ∷ [])

@@ -8,3 +8,7 @@ pub mod Claim
 pub mod Frames
 pub mod ReadBack
 pub mod OneAnswer
+pub mod Calls
+pub mod History
+pub mod Reached
+pub mod Order

@@ -1,0 +1,95 @@
+-- The search for the first entry that is the same: for a loop that looks at one in each turn, and what the place that it finds
+-- says. Assumes nothing.
+use Prim.Native.Nat.{ℕ, _+_, _≤_, _<_}
+use mathlib.Core.Path.{_≡_, refl, sym, _∙_, ap}
+use mathlib.Core.Bool.{Bool, true, false, cond, _||_}
+use mathlib.Core.List.{List, [], _∷_, map}
+use native.Mathlib.Nat.{zero-add, add-zero}
+use native.Mathlib.Numerals.{add-one}
+use native.Mathlib.Omega.{arith}
+use lib.Dec.{ltb, leb·suc-suc}
+use lib.ListN.{length, getD, take, drop, length-map, drop-of-length-le}
+use lib.Seq.{drop-cons, getD-take, length-take-le}
+use borrow.Author.Tests.{lt-ltb}
+use Rattle.zigbee_types.specs.Lists.{any}
+use Rattle.aps_binding.specs.Entry.{same}
+use Rattle.aps_binding.specs.Held.{holds, position, without}
+use Rattle.aps_binding.specs.Table.{held}
+use Rattle.aps_binding.specs.declared.binding.Binding.{Binding}
+use Rattle.aps_binding.specs.declared.binding.BindingTable.{BindingTable}
+use Rattle.aps_binding.proofs.Shift.{cut}
+
+-- an array of structs in a struct has as many elements as its type says
+pub length-mapped : (X Y : Type 0) (f : X → Y) (xs : List X) (n : ℕ) → length (map f xs) ≡ n → length xs ≡ n
+length-mapped X Y f xs n e = rw length-map at e
+
+-- ---- the loop
+
+-- the first i entries held were passed by: none of them is the same
+pub record Passed (b : Binding) (t : BindingTable) (i : ℕ) : Type 0 where
+  pub within : i ≤ t .count
+  pub fits : t .count ≤ length (t .entries)
+  pub left : position b (held t) ≡ i + position b (drop i (held t))
+
+-- none, to begin with
+pub passed-first : {b : Binding} {t : BindingTable} → length (t .entries) ≡ 32 → t .count ≤ 32 → Passed b t 0
+passed-first e h = record { within = omega arith; fits = omega arith; left = sym (zero-add _) }
+
+module _ {b : Binding} {t : BindingTable} {i : ℕ} (p : Passed b t i) where
+  module _ (d : Binding) (h : i < t .count) where
+    -- the next entry
+    here : drop i (held t) ≡ getD (t .entries) i d ∷ drop (i + 1) (held t)
+    unfolding held
+    here =
+        let l : length (take (t .count) (t .entries)) ≡ t .count = length-take-le (t .count) (t .entries) (p .fits) in
+        rw (drop-cons (take (t .count) (t .entries)) i d (omega arith), getD-take (t .count) (t .entries) i d h, add-one)
+
+    -- is the one
+    pub passed-here : {r : Bool} → r ≡ same b (getD (t .entries) i d) → r ≡ true → i ≡ position b (held t)
+    unfolding position
+    passed-here e f = rw (p .left, here, ← e, f) (omega arith)
+
+    -- is passed by too
+    pub passed-next : {r : Bool} → r ≡ same b (getD (t .entries) i d) → r ≡ false → Passed b t (i + 1)
+    unfolding position
+    passed-next e f =
+        record { within = omega arith; fits = p .fits; left = p .left ∙ rw (here, ← e, f) (omega arith) }
+
+  -- there is no next
+  pub passed-end : t .count ≤ i → i ≡ position b (held t)
+  unfolding position held
+  passed-end h =
+      let l : length (take (t .count) (t .entries)) ≤ i = rw (length-take-le (t .count) (t .entries) (p .fits)) h in
+      rw (p .left, drop-of-length-le (take (t .count) (t .entries)) {i = i} l) (omega arith)
+
+-- ---- the place that is found
+
+module _ (b : Binding) where
+  pub position-le : (xs : List Binding) → position b xs ≤ length xs
+  unfolding position
+  position-le [] = omega arith
+  position-le (x ∷ xs) =
+      elim (same b x) as (λ s. cond s 0 (position b xs + 1) ≤ length (x ∷ xs)) [
+        | true ↦ omega arith
+        | false ↦ omega (arith, position-le xs)
+      ]
+
+  -- an entry is held if its place comes before the end
+  pub holds-position : (xs : List Binding) → holds b xs ≡ ltb (position b xs) (length xs)
+  unfolding position holds any
+  holds-position [] = refl
+  holds-position (x ∷ xs) =
+      elim (same b x) as (λ s. s || any (same b) xs ≡ ltb (cond s 0 (position b xs + 1)) (length (x ∷ xs))) [
+        | true ↦ sym (lt-ltb 0 (length (x ∷ xs)) (omega arith))
+        | false ↦ rw (add-one, leb·suc-suc) (holds-position xs)
+      ]
+
+  -- what is left without it stands before its place and behind it
+  pub without-position : (xs : List Binding) → without b xs ≡ cut (position b xs) xs
+  unfolding position without
+  without-position [] = refl
+  without-position (x ∷ xs) =
+      elim (same b x) as (λ s. cond s xs (x ∷ without b xs) ≡ cut (cond s 0 (position b xs + 1)) (x ∷ xs)) [
+        | true ↦ refl
+        | false ↦ rw (without-position xs, add-one, add-one)
+      ]

@@ -1,0 +1,32 @@
+-- More room never loses a binding (the third demand, of the table alone), as a statement. A term of it stands in proofs/.
+use Prim.Native.Nat.{ℕ, _≤_}
+use mathlib.Core.Path.{_≡_}
+use mathlib.Core.Bool.{true}
+use mathlib.Core.List.{List}
+use Rattle.zigbee_types.specs.Outcome.{Outcome, answer}
+use Rattle.zigbee_types.specs.Statuses.{SUCCESS, NO-ENTRY, TABLE-FULL}
+use Rattle.aps_binding.specs.Held.{holds}
+use Rattle.aps_binding.specs.Table.{emptyTable, held}
+use Rattle.aps_binding.specs.declared.binding.Binding.{Binding}
+use Rattle.aps_binding.specs.declared.binding.BindingTable.{BindingTable}
+use Rattle.demands.specs.Calls.{Call, told, after}
+
+-- what is told in a first run and in a second: the same, but that TABLE_FULL or NO_ENTRY in the first may be SUCCESS in the second
+pub data Agree : Outcome ℕ → Outcome ℕ → Type 0 where
+  equal : (o : Outcome ℕ) → Agree o o
+  room : Agree (answer TABLE-FULL) (answer SUCCESS)
+  kept : Agree (answer NO-ENTRY) (answer SUCCESS)
+
+-- every entry held in a first table is held in a second, and whatever is called next, what is told agrees
+pub record Ordered (t u : BindingTable) : Type 0 where
+  pub entries : (b : Binding) → holds b (held t) ≡ true → holds b (held u) ≡ true
+  pub statuses : (c : Call) → Agree (told t c) (told u c)
+
+-- so it is at each step of two runs of the same calls, from empty, the second with an equal or larger limit, both at most 32
+abbrev pub Order : Type 0
+Order =
+    (less more : ℕ)
+    → less ≤ more
+    → more ≤ 32
+    → (cs : List Call)
+    → Ordered (after (emptyTable less) cs) (after (emptyTable more) cs)
