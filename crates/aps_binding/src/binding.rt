@@ -172,7 +172,8 @@ pub fn create_binding_link(table: BindingTable, binding: Binding) -> Linked
             status: LinkStatus::Refused(Refusal::BadTables),
         };
     }
-    if table.position(binding) < count {
+    let index = table.position(binding);
+    if index < count {
         return Linked {
             table,
             status: LinkStatus::Success,

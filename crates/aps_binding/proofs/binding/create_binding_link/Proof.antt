@@ -7,20 +7,14 @@ use Rattle.aps_binding.proofs.binding.create_binding_link.Tie as tie
 
 ruleset laws = (needs, length-mapped, good-table, count-fits, create-refused, create-held, create-full, create-room, create-added)
 
-push-requires : tie.Need-push-requires
-push-requires c κs =
-    let n = c .if3 .left in
-    search laws
-
-returns-4 : tie.Need-returns-4
-returns-4 c =
-    let n = c .before .if3 .left in
-    search laws
-
 pub create-binding-link-spec : {M : Type 1} → statement M
-create-binding-link-spec = tie.close (tie.spec (λ c κs. search laws)  -- good-sizes-requires
+create-binding-link-spec =
+    tie.close
+    (tie.spec
+    (λ c κs. search laws)  -- good-sizes-requires
     (λ c. search laws)  -- returns
     (λ c κs. search laws)  -- position-requires
     (λ c. search laws)  -- returns-2
     (λ c. search laws)  -- returns-3
-    push-requires returns-4)
+    (λ c κs. let n = c .if3 .left in search laws)  -- push-requires
+    (λ c. let n = c .before .if3 .left in search laws))  -- returns-4

@@ -7,19 +7,13 @@ use Rattle.aps_binding.proofs.binding.remove_binding_link.Tie as tie
 
 ruleset laws = (needs, length-mapped, good-table, count-fits, remove-refused, remove-none, remove-below, remove-found)
 
-remove-requires : tie.Need-remove-requires
-remove-requires c κs =
-    let n = c .if2 .left in
-    search laws
-
-returns-3 : tie.Need-returns-3
-returns-3 c =
-    let n = c .before .if2 .left in
-    search laws
-
 pub remove-binding-link-spec : {M : Type 1} → statement M
-remove-binding-link-spec = tie.close (tie.spec (λ c κs. search laws)  -- good-sizes-requires
+remove-binding-link-spec =
+    tie.close
+    (tie.spec
+    (λ c κs. search laws)  -- good-sizes-requires
     (λ c. search laws)  -- returns
     (λ c κs. search laws)  -- position-requires
     (λ c. search laws)  -- returns-2
-    remove-requires returns-3)
+    (λ c κs. let n = c .if2 .left in search laws)  -- remove-requires
+    (λ c. let n = c .before .if2 .left in search laws))  -- returns-3
