@@ -1,4 +1,7 @@
+pub mod Same
+pub mod Holds
 pub mod Places
+pub mod Placed
 pub mod Shift
 pub mod Search
 pub mod Links

@@ -2,3 +2,8 @@ pub mod CounterCases
 pub mod Frames
 pub mod ReadBack
 pub mod OneAnswer
+pub mod Calls
+pub mod History
+pub mod Distinct
+pub mod Reached
+pub mod Order

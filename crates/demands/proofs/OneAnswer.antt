@@ -1,5 +1,9 @@
 -- Each enum that holds an answer or a refusal comes back from what it says. Assumes nothing.
-use mathlib.Core.Path.{_≡_, refl}
+use Prim.Native.Nat.{ℕ}
+use mathlib.Core.Path.{_≡_, refl, sym, _∙_}
+use mathlib.Core.Bool.{cond}
+use lib.Dec.{eqb}
+use Rattle.zigbee_types.specs.Statuses.{SUCCESS, NO-ENTRY}
 use Rattle.zigbee_types.specs.Answers.{writtenSays, listsSays}
 use Rattle.zigbee_types.specs.declared.Written.{Written}
 use Rattle.zigbee_types.specs.declared.Written.the-variants as written
@@ -15,6 +19,9 @@ use Rattle.node_power_descriptor.specs.declared.NodePowerDescriptorRead.the-var
 use Rattle.simple_descriptor.specs.SimpleDescriptor.{simpleSays}
 use Rattle.simple_descriptor.specs.declared.SimpleDescriptorRead.{SimpleDescriptorRead}
 use Rattle.simple_descriptor.specs.declared.SimpleDescriptorRead.the-variants as simple
+use Rattle.aps_binding.specs.Answers.{linkSays}
+use Rattle.aps_binding.specs.declared.binding.LinkStatus.{LinkStatus}
+use Rattle.aps_binding.specs.declared.binding.LinkStatus.the-variants as link
 use Rattle.demands.specs.OneAnswer.{Determines, OneAnswer}
 
 written-again : (w : Written) → from written.Length written.Refused (writtenSays w) ≡ w
@@ -42,6 +49,20 @@ unfolding simpleSays
 simple-again (simple.Descriptor d) = refl
 simple-again (simple.Refused why) = refused-back simple.Refused why
 
+-- the answer that tells a status
+abbrev linkOf : ℕ → LinkStatus
+linkOf status = cond (eqb status SUCCESS) link.Success (cond (eqb status NO-ENTRY) link.InvalidBinding link.TableFull)
+
+link-again : (l : LinkStatus) → from linkOf link.Refused (linkSays l) ≡ l
+unfolding linkSays
+link-again link.Success = refl
+link-again link.InvalidBinding = refl
+link-again link.TableFull = refl
+link-again (link.Refused why) = refused-back link.Refused why
+
+one-link : Determines linkSays
+one-link = determined linkSays linkOf link.Refused link-again
+
 one-written : Determines writtenSays
 one-written = determined writtenSays written.Length written.Refused written-again
 
@@ -53,5 +74,11 @@ one-answer =
       node = determined nodeSays node.Descriptor node.Refused node-again;
       power = determined powerSays power.Descriptor power.Refused power-again;
       simple = determined simpleSays simple.Descriptor simple.Refused simple-again;
+      links = one-link;
       writer = λ o before r s after later p q. let (told, left) = one-wrote o before _ _ after later p q in (one-written r s told, left);
+      linker =
+          λ o t r s p q.
+          let told = one-link (r .status) (s .status) (p .said ∙ sym (q .said)) in
+          let left = p .left ∙ sym (q .left) in
+          λ i. record { table = left i; status = told i };
     }

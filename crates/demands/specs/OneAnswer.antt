@@ -9,20 +9,32 @@ use Rattle.zigbee_types.specs.declared.Written.{Written}
 use Rattle.node_descriptor.specs.NodeDescriptor.{nodeSays}
 use Rattle.node_power_descriptor.specs.PowerDescriptor.{powerSays}
 use Rattle.simple_descriptor.specs.SimpleDescriptor.{simpleSays}
+use Rattle.aps_binding.specs.Answers.{linkSays}
+use Rattle.aps_binding.specs.Held.{Step}
+use Rattle.aps_binding.specs.Table.{Leaves}
+use Rattle.aps_binding.specs.declared.binding.BindingTable.{BindingTable}
+use Rattle.aps_binding.specs.declared.binding.Linked.{Linked}
 
 -- what an answer says determines it
 abbrev pub Determines : {A B : Type 0} → (A → B) → Type 0
 Determines {A} says = (a b : A) → says a ≡ says b → a ≡ b
 
--- so it is with each enum that holds an answer or a refusal; and a writer's contract determines its answer and the buffer
+-- so it is with each enum that holds an answer or a refusal; a writer's contract determines its answer and the buffer, and a bind's
+-- or an unbind's its answer and its table
 pub record OneAnswer : Type 0 where
   pub written : Determines writtenSays
   pub lists : Determines listsSays
   pub node : Determines nodeSays
   pub power : Determines powerSays
   pub simple : Determines simpleSays
+  pub links : Determines linkSays
   pub writer :
       (o : Outcome (List ℕ)) (before : List ℕ) (r s : Written) (after later : List ℕ)
       → Wrote o before (writtenSays r) after
       → Wrote o before (writtenSays s) later
       → (r ≡ s) × (after ≡ later)
+  pub linker :
+      (o : Outcome Step) (t : BindingTable) (r s : Linked)
+      → Leaves o t (linkSays (r .status)) (r .table)
+      → Leaves o t (linkSays (s .status)) (s .table)
+      → r ≡ s

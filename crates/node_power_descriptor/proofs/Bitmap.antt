@@ -3,7 +3,7 @@ use Prim.Native.Nat.{ℕ, zero, suc, _+_, _*_, _/_, _%_, _≤_, _<_}
 use native.Mathlib.Numerals.{add-one}
 use native.Mathlib.Omega.{arith}
 use mathlib.Core.Path.{_≡_, refl}
-use mathlib.Core.Bool.{Bool, true, false, not, _||_, _&&_, and-false, or-false, or-assoc, and-or-distrib-left}
+use mathlib.Core.Bool.{Bool, true, false, not, _||_, _&&_, and-false, and-or-distrib-left}
 use mathlib.Core.List.{List, [], _∷_, _++_}
 use lib.Bits.{bitAnd, bitOr}
 use lib.Dec.{eqb, ltb, leb·zero, leb·suc-zero, leb·suc-suc, eqb·suc-zero}
@@ -13,6 +13,7 @@ use borrow.Author.Tests.{ne-eqb}
 use Rattle.zigbee_types.specs.Bytes.{bit, bitAt}
 use Rattle.zigbee_types.specs.Lists.{any}
 use Rattle.zigbee_types.proofs.Bits.{bit-below, bit-is, bit-above, zero-bits, low-bits, same-bits, or-bits, and-bits}
+use Rattle.zigbee_types.proofs.Elements.{any-last}
 use Rattle.node_power_descriptor.specs.PowerDescriptor.{sourceNumber, sourceBits, sourceBitmap, common, supports}
 use Rattle.node_power_descriptor.specs.Bits.{BitmapUnion}
 use Rattle.node_power_descriptor.specs.declared.NodePowerDescriptor.{NodePowerDescriptor}
@@ -60,12 +61,6 @@ bitmap-gathered xs = omega arith
 
 pub bitmap-union : BitmapUnion
 bitmap-union i xs = rw bitmap-gathered (gathered-bits 4 i (λ j. any (bitAt j) xs))
-
--- some element of a list with one more passes
-any-last : {A : Type 0} (p : A → Bool) (xs : List A) (x : A) → any p (xs ++ (x ∷ [])) ≡ (any p xs || p x)
-unfolding any
-any-last p [] x = or-false (p x)
-any-last p (y ∷ xs) x = rw (any-last p xs x, or-assoc)
 
 -- one more source
 bitmap-last : (xs : List ℕ) (x : ℕ) → bitOr (sourceBitmap xs) (x % 16) ≡ sourceBitmap (xs ++ (x ∷ []))

@@ -7,4 +7,5 @@ pub mod Entries
 pub mod Outcomes
 pub mod Bits
 pub mod Named
+pub mod Elements
 pub mod OneOutcome

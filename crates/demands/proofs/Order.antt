@@ -1,0 +1,140 @@
+-- A run with more room holds at least as much, and refuses no more. Assumes nothing.
+use Prim.Native.Nat.{ℕ, _+_, _≤_}
+use native.Mathlib.Omega.{arith}
+use mathlib.Core.Path.{_≡_, refl, sym, _∙_}
+use mathlib.Core.Bool.{true, false, false≢true}
+use mathlib.Core.List.{List, [], _∷_, _++_}
+use lib.ListN.{length, length-append}
+use Rattle.zigbee_types.specs.Outcome.{answer}
+use Rattle.aps_binding.specs.Entry.{same}
+use Rattle.aps_binding.specs.Held.{Step, holds, without}
+use Rattle.aps_binding.specs.Table.{emptyTable, held}
+use Rattle.aps_binding.specs.declared.binding.Binding.{Binding}
+use Rattle.aps_binding.specs.declared.binding.BindingTable.{BindingTable}
+use Rattle.aps_binding.proofs.Holds.{not-same, last-keeps, last-held, last-within, holds-other, length-without}
+use Rattle.demands.specs.Calls.{Call, next, after}
+use Rattle.demands.specs.Reached.{distinct}
+use Rattle.demands.specs.Order.{Agree, equal, room, kept, Ordered, Order}
+use Rattle.demands.proofs.Calls.{stepped, Stepped, again, full, added, removed, absent, step-cases, Shaped, empty-shaped, held-length, told-step, shaped-next, next-limit, next-held}
+use Rattle.demands.proofs.Distinct.{distinct-last, distinct-without, holds-gone}
+
+-- ---- one step
+
+-- between the entries held at limit m and those held at limit n: the first are held in the second, none of the first stands twice,
+-- and the second have no less room left
+record Ahead (m n : ℕ) (xs ys : List Binding) : Type 0 where
+  sub : (c : Binding) → holds c xs ≡ true → holds c ys ≡ true
+  once : distinct xs ≡ true
+  spare : length ys + m ≤ length xs + n
+
+-- so it is after a step, and the statuses agree
+abbrev Next : ℕ → ℕ → Step → Step → Type 0
+Next m n s l = Ahead m n (s .entries) (l .entries) × Agree (answer (s .status)) (answer (l .status))
+
+module _ {m n : ℕ} {xs ys : List Binding} (a : Ahead m n xs ys) where
+  -- none that is held in the first run is missing in the second
+  missing : {P : Type 0} (b : Binding) → holds b xs ≡ true → holds b ys ≡ false → P
+  missing b hx hy = absurd (false≢true (sym hy ∙ a .sub b hx))
+
+  -- all that the first holds is held in the second with b put last
+  grown : (b c : Binding) → holds c xs ≡ true → holds c (ys ++ (b ∷ [])) ≡ true
+  grown b c h = last-keeps c b ys (a .sub c h)
+
+  -- it stays so where b is put last in the second, since the first is full
+  second-added : (b : Binding) → length xs ≡ m → length ys ≤ n → (length ys ≡ n → ⊥) → Ahead m n xs (ys ++ (b ∷ []))
+  second-added b e large k =
+      record { sub = grown b; once = a .once; spare = simp length-append (omega arith) }
+
+  -- or in the first, since the second holds it
+  first-added : (b : Binding) → holds b xs ≡ false → holds b ys ≡ true → Ahead m n (xs ++ (b ∷ [])) ys
+  first-added b hx hy =
+      record { sub = last-within b xs ys (a .sub) hy; once = distinct-last b xs (a .once) hx; spare = simp length-append (omega arith) }
+
+  -- or in both
+  both-added : (b : Binding) → holds b xs ≡ false → Ahead m n (xs ++ (b ∷ [])) (ys ++ (b ∷ []))
+  both-added b hx =
+      record {
+        sub = last-within b xs (ys ++ (b ∷ [])) (grown b) (last-held b ys);
+        once = distinct-last b xs (a .once) hx;
+        spare = simp length-append (omega arith);
+      }
+
+  -- an entry that is not the same as b is held in the second without b
+  stays : (b c : Binding) → same b c ≡ false → holds c xs ≡ true → holds c (without b ys) ≡ true
+  stays b c other h = holds-other c b ys other ∙ a .sub c h
+
+  -- so it stays where b goes from the second alone
+  second-removed : (b : Binding) → holds b xs ≡ false → holds b ys ≡ true → Ahead m n xs (without b ys)
+  second-removed b hx hy =
+      record { sub = λ c h. stays b c (not-same b c xs hx h) h; once = a .once; spare = omega (arith, length-without b ys hy) }
+
+  -- or from both, since the first then holds none that is the same as b
+  both-removed : (b : Binding) → holds b xs ≡ true → holds b ys ≡ true → Ahead m n (without b xs) (without b ys)
+  both-removed b hx hy =
+      record {
+        sub =
+            λ c h.
+            let other = not-same b c (without b xs) (holds-gone b xs (a .once)) h in
+            stays b c other (sym (holds-other c b xs other) ∙ h);
+        once = distinct-without b xs (a .once);
+        spare = omega (arith, length-without b xs hx, length-without b ys hy);
+      }
+
+  both-next : {c : Call} {s l : Step} → length xs ≤ m → length ys ≤ n → Stepped m xs c s → Stepped n ys c l → Next m n s l
+  both-next small large (again b hx) (again _ hy) = (a, equal _)
+  both-next small large (again b hx) (full _ hy k) = missing b hx hy
+  both-next small large (again b hx) (added _ hy k) = missing b hx hy
+  both-next small large (full b hx e) (again _ hy) = (a, room)
+  both-next small large (full b hx e) (full _ hy k) = (a, equal _)
+  both-next small large (full b hx e) (added _ hy k) = (second-added b e large k, room)
+  both-next small large (added b hx e) (again _ hy) = (first-added b hx hy, equal _)
+  both-next small large (added b hx e) (full _ hy k) = absurd (omega arith)
+  both-next small large (added b hx e) (added _ hy k) = (both-added b hx, equal _)
+  both-next small large (removed b hx) (removed _ hy) = (both-removed b hx hy, equal _)
+  both-next small large (removed b hx) (absent _ hy) = missing b hx hy
+  both-next small large (absent b hx) (removed _ hy) = (second-removed b hx hy, kept)
+  both-next small large (absent b hx) (absent _ hy) = (a, equal _)
+
+-- ---- tables
+
+record Behind (t u : BindingTable) : Type 0 where
+  less : Shaped t
+  more : Shaped u
+  ahead : Ahead (t .limit) (u .limit) (held t) (held u)
+
+stepped-next : {t u : BindingTable} (c : Call) → Behind t u → Next (t .limit) (u .limit) (stepped t c) (stepped u c)
+stepped-next {t} {u} c r =
+    let small : length (held t) ≤ t .limit = omega (arith, held-length (r .less)) in
+    let large : length (held u) ≤ u .limit = omega (arith, held-length (r .more)) in
+    both-next (r .ahead) small large (step-cases t c) (step-cases u c)
+
+behind-next : {t u : BindingTable} (c : Call) → Behind t u → Behind (next t c) (next u c)
+behind-next c r =
+    record {
+      less = shaped-next c (r .less);
+      more = shaped-next c (r .more);
+      ahead = rw (next-held c (r .less), next-held c (r .more), next-limit c (r .less), next-limit c (r .more)) (stepped-next c r .0);
+    }
+
+behind-after : {t u : BindingTable} (cs : List Call) → Behind t u → Behind (after t cs) (after u cs)
+unfolding after
+behind-after [] r = r
+behind-after (c ∷ cs) r = behind-after cs (behind-next c r)
+
+behind-ordered : {t u : BindingTable} → Behind t u → Ordered t u
+behind-ordered r =
+    record {
+      entries = r .ahead .sub;
+      statuses = λ c. rw (told-step c (r .less), told-step c (r .more)) (stepped-next c r .1);
+    }
+
+pub order : Order
+unfolding emptyTable held distinct
+order less more h l cs =
+    let start : Behind (emptyTable less) (emptyTable more) =
+    record {
+      less = empty-shaped less (omega arith);
+      more = empty-shaped more (omega arith);
+      ahead = record { sub = λ c e. e; once = refl; spare = omega arith };
+    } in
+    behind-ordered (behind-after cs start)

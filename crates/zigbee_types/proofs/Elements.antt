@@ -1,0 +1,29 @@
+-- Tests of a list with one more element, and a list of one element many times. Assumes nothing.
+use Prim.Native.Nat.{ℕ, zero, suc, _-_}
+use native.Mathlib.Omega.{arith}
+use mathlib.Core.Path.{_≡_}
+use mathlib.Core.Bool.{Bool, _||_, _&&_, or-false, or-assoc, and-true, and-assoc}
+use mathlib.Core.List.{List, [], _∷_, _++_}
+use lib.ListN.{drop, replicate}
+use Rattle.zigbee_types.specs.Lists.{any, all}
+
+module _ {A : Type 0} where
+  -- some element of a list with one more passes
+  pub any-last : (p : A → Bool) (xs : List A) (x : A) → any p (xs ++ (x ∷ [])) ≡ (any p xs || p x)
+  unfolding any
+  any-last p [] x = or-false (p x)
+  any-last p (y ∷ xs) x = rw (any-last p xs x, or-assoc)
+
+  -- every element of a list with one more passes
+  pub all-last : (p : A → Bool) (xs : List A) (x : A) → all p (xs ++ (x ∷ [])) ≡ (all p xs && p x)
+  unfolding all
+  all-last p [] x = and-true (p x)
+  all-last p (y ∷ xs) x = rw (all-last p xs x, and-assoc)
+
+  -- what is left of m times one element behind the first n
+  pub drop-replicate : (n m : ℕ) (a : A) → drop n (replicate m a) ≡ replicate (m - n) a
+  drop-replicate zero m a = let all : m - 0 ≡ m = omega arith in rw all
+  drop-replicate (suc n) zero a = let none : 0 - suc n ≡ 0 = omega arith in rw none
+  drop-replicate (suc n) (suc m) a =
+      let rest : suc m - suc n ≡ m - n = omega arith in
+      rw rest (drop-replicate n m a)
