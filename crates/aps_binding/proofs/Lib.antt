@@ -1,5 +1,6 @@
 pub mod Same
 pub mod Holds
+pub mod Good
 pub mod Places
 pub mod Placed
 pub mod Shift

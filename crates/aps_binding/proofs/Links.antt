@@ -1,13 +1,11 @@
 -- What each way out of a bind and of an unbind returns is what the contract says. Assumes nothing.
 use Prim.Native.Nat.{ℕ, _≤_, _<_}
 use mathlib.Core.Path.{_≡_, refl, sym, _∙_}
-use mathlib.Core.Bool.{Bool, true, false, not, _&&_, false≢true}
-use mathlib.Core.List.{List, [], _∷_, _++_}
+use mathlib.Core.Bool.{Bool, true, false, not}
+use mathlib.Core.List.{[], _∷_, _++_}
 use native.Mathlib.Omega.{arith}
-use lib.Dec.{leb, eqb}
 use lib.ListN.{length}
-use lib.Seq.{length-take-le}
-use borrow.Author.Tests.{not-true, not-false, leb-true, lt-ltb, le-ltb, eq-eqb, ne-eqb}
+use borrow.Author.Tests.{not-true, not-false, lt-ltb, le-ltb, eq-eqb, ne-eqb}
 use Rattle.zigbee_types.specs.Outcome.{Outcome, answer, mapped}
 use Rattle.zigbee_types.specs.declared.Refusal.the-variants.{BadTables}
 use Rattle.aps_binding.specs.Held.{Step, holds, position, bound, boundAs, unbound, unboundAs}
@@ -16,6 +14,7 @@ use Rattle.aps_binding.specs.Answers.{linkSays}
 use Rattle.aps_binding.specs.declared.binding.Binding.{Binding}
 use Rattle.aps_binding.specs.declared.binding.BindingTable.{BindingTable}
 use Rattle.aps_binding.specs.declared.binding.LinkStatus.the-variants.{Success, InvalidBinding, TableFull, Refused}
+use Rattle.aps_binding.proofs.Good.{Good, good-table, count-inside, held-length, on-good}
 use Rattle.aps_binding.proofs.Places.{held-stays}
 use Rattle.aps_binding.proofs.Shift.{cut}
 use Rattle.aps_binding.proofs.Search.{position-le, holds-position, without-position}
@@ -37,51 +36,30 @@ module _ {t : BindingTable} {good : Bool} (is : good ≡ goodSizes (t .count) (t
 
 -- ---- a good table
 
-pub record Good (t : BindingTable) : Type 0 where
-  pub good : goodTable t ≡ true
-  pub within : t .count ≤ t .limit
-  pub limited : t .limit ≤ 32
-  pub fits : t .count ≤ length (t .entries)
-
-both : (p q : Bool) → p && q ≡ true → (p ≡ true) × (q ≡ true)
-both true q e = (refl, e)
-both false q e = absurd (false≢true e)
-
-pub good-table : {t : BindingTable} {good : Bool} → length (t .entries) ≡ 32 → good ≡ goodSizes (t .count) (t .limit) → not good ≡ false → Good t
+pub tested-good :
+    {t : BindingTable} {good : Bool} → length (t .entries) ≡ 32 → good ≡ goodSizes (t .count) (t .limit) → not good ≡ false → Good t
 unfolding goodTable
-good-table {t} {good} e is h =
-    let g : goodSizes (t .count) (t .limit) ≡ true = sym is ∙ not-false good h in
-    let (c, l) = both (leb (t .count) (t .limit)) (leb (t .limit) 32) g in
-    let within = leb-true (t .count) (t .limit) c in
-    let limited = leb-true (t .limit) 32 l in
-    record { good = g; within = within; limited = limited; fits = omega arith }
+tested-good {t} {good} e is h = good-table t e (sym is ∙ not-false good h)
 
 module _ {t : BindingTable} (g : Good t) where
-  pub count-fits : t .count ≤ 32
-  count-fits = omega (arith, g .within, g .limited)
-
   -- below its limit there is a place
   pub create-room : (t .count ≡ t .limit → ⊥) → t .count < 32
   create-room n = omega (arith, g .within, g .limited)
 
-  held-count : length (held t) ≡ t .count
-  unfolding held
-  held-count = length-take-le (t .count) (t .entries) (g .fits)
-
   stays : t ≡ placed t (held t)
-  stays = sym (held-stays t (g .fits))
+  stays = sym (held-stays t (count-inside g))
 
   -- it tells a step's status, and has its entries placed
   leaves : (s : Step) {told : Outcome ℕ} {u : BindingTable} → told ≡ answer (s .status) → u ≡ placed t (s .entries) → Leaves (onGood t s) t told u
-  unfolding onGood tableLeft mapped
-  leaves s e f = rw (g .good) (record { said = e; left = f })
+  unfolding tableLeft mapped
+  leaves s e f = rw (on-good g s) (record { said = e; left = f })
 
   module _ (b : Binding) (at : ℕ) (is : at ≡ position b (held t)) where
     found : at < t .count → holds b (held t) ≡ true
-    found h = rw (holds-position b (held t), ← is, held-count) (lt-ltb at (t .count) h)
+    found h = rw (holds-position b (held t), ← is, held-length g) (lt-ltb at (t .count) h)
 
     missed : t .count ≤ at → holds b (held t) ≡ false
-    missed h = rw (holds-position b (held t), ← is, held-count) (le-ltb at (t .count) h)
+    missed h = rw (holds-position b (held t), ← is, held-length g) (le-ltb at (t .count) h)
 
     -- a bind of an entry that is held; of another, in a full table; and of another, where there is room
     pub create-held : at < t .count → Leaves (createBindingLink t b) t (linkSays Success) t
@@ -90,7 +68,7 @@ module _ {t : BindingTable} (g : Good t) where
 
     pub create-full : t .count ≤ at → t .count ≡ t .limit → Leaves (createBindingLink t b) t (linkSays TableFull) t
     unfolding createBindingLink bound boundAs linkSays
-    create-full h e = rw (missed h, held-count, eq-eqb _ _ e) (leaves _ refl stays)
+    create-full h e = rw (missed h, held-length g, eq-eqb _ _ e) (leaves _ refl stays)
 
     pub create-added :
         {u : BindingTable}
@@ -99,7 +77,7 @@ module _ {t : BindingTable} (g : Good t) where
         → u ≡ placed t (held t ++ (b ∷ []))
         → Leaves (createBindingLink t b) t (linkSays Success) u
     unfolding createBindingLink bound boundAs linkSays
-    create-added h n e = rw (missed h, held-count, ne-eqb _ _ n) (leaves _ refl e)
+    create-added h n e = rw (missed h, held-length g, ne-eqb _ _ n) (leaves _ refl e)
 
     -- an unbind of an entry that is not held, and of one that is
     pub remove-none : at ≡ t .count → Leaves (removeBindingLink t b) t (linkSays InvalidBinding) t
@@ -107,7 +85,7 @@ module _ {t : BindingTable} (g : Good t) where
     remove-none e = rw (missed (omega arith)) (leaves _ refl stays)
 
     pub remove-below : (at ≡ t .count → ⊥) → at < t .count
-    remove-below n = omega (arith, position-le b (held t), held-count)
+    remove-below n = omega (arith, position-le b (held t), held-length g)
 
     pub remove-found :
         {u : BindingTable} → (at ≡ t .count → ⊥) → u ≡ placed t (cut at (held t)) → Leaves (removeBindingLink t b) t (linkSays Success) u

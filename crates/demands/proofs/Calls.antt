@@ -3,18 +3,18 @@
 use Prim.Native.Nat.{ℕ, _≤_}
 use native.Mathlib.Omega.{arith}
 use mathlib.Core.Path.{_≡_, refl}
-use mathlib.Core.Bool.{Bool, true, false, and-eq-true-iff}
+use mathlib.Core.Bool.{Bool, true, false}
 use mathlib.Core.List.{List, [], _∷_, _++_}
-use lib.Dec.{eqb, leb}
+use lib.Dec.{eqb}
 use lib.ListN.{length, length-append}
-use lib.Seq.{length-take-le}
-use borrow.Author.Tests.{eqb-true, eqb-false, leb-true, le-leb}
+use borrow.Author.Tests.{eqb-true, eqb-false}
 use Rattle.zigbee_types.specs.Outcome.{answer, refusal, mapped}
 use Rattle.zigbee_types.specs.Statuses.{SUCCESS, NO-ENTRY, TABLE-FULL}
 use Rattle.aps_binding.specs.Held.{Step, holds, without, boundAs, bound, unboundAs, unbound}
-use Rattle.aps_binding.specs.Table.{emptyTable, goodTable, held, placed, onGood, createBindingLink, removeBindingLink, tableLeft}
+use Rattle.aps_binding.specs.Table.{goodTable, held, placed, onGood, createBindingLink, removeBindingLink, tableLeft}
 use Rattle.aps_binding.specs.declared.binding.Binding.{Binding}
 use Rattle.aps_binding.specs.declared.binding.BindingTable.{BindingTable}
+use Rattle.aps_binding.proofs.Good.{Good, held-length, on-good}
 use Rattle.aps_binding.proofs.Placed.{placed-held, placed-places}
 use Rattle.aps_binding.proofs.Holds.{length-without}
 use Rattle.demands.specs.Calls.{Call, bind, unbind, called, told, next}
@@ -70,33 +70,6 @@ fits (added b h room) l = simp length-append (omega arith)
 fits {xs = xs} (removed b h) l = omega (arith, length-without b xs h)
 fits (absent b h) l = l
 
--- ---- tables
-
--- a good table of thirty-two places
-pub record Shaped (t : BindingTable) : Type 0 where
-  pub within : t .count ≤ t .limit
-  pub limited : t .limit ≤ 32
-  pub places : length (t .entries) ≡ 32
-
--- such is an empty one
-pub empty-shaped : (limit : ℕ) → limit ≤ 32 → Shaped (emptyTable limit)
-unfolding emptyTable
-empty-shaped limit h = record { within = omega arith; limited = h; places = refl }
-
--- and every table that is good
-pub good-shaped : (t : BindingTable) → length (t .entries) ≡ 32 → goodTable t ≡ true → Shaped t
-unfolding goodTable
-good-shaped t e g =
-    let (few, small) = and-eq-true-iff (leb (t .count) (t .limit)) (leb (t .limit) 32) .0 g in
-    record { within = leb-true (t .count) (t .limit) few; limited = leb-true (t .limit) 32 small; places = e }
-
--- it holds as many entries as it counts
-pub held-length : {t : BindingTable} → Shaped t → length (held t) ≡ t .count
-unfolding held
-held-length {t} s =
-    let few : t .count ≤ length (t .entries) = omega arith in
-    length-take-le (t .count) (t .entries) few
-
 -- ---- calls
 
 called-step : (t : BindingTable) (c : Call) → called t c ≡ onGood t (stepped t c)
@@ -119,10 +92,9 @@ module _ (t : BindingTable) (c : Call) (bad : goodTable t ≡ false) where
   next-refused = rw refused
 
 -- else the step's status is told, and its entries are placed
-module _ {t : BindingTable} (c : Call) (s : Shaped t) where
+module _ {t : BindingTable} (c : Call) (s : Good t) where
   answered : called t c ≡ answer (stepped t c)
-  unfolding onGood goodTable
-  answered = rw (called-step t c, le-leb (t .count) (t .limit) (s .within), le-leb (t .limit) 32 (s .limited))
+  answered = rw (called-step t c) (on-good s (stepped t c))
 
   pub told-step : told t c ≡ answer (stepped t c .status)
   unfolding told mapped
@@ -132,23 +104,23 @@ module _ {t : BindingTable} (c : Call) (s : Shaped t) where
   unfolding next tableLeft
   next-placed = rw answered
 
-pub stepped-fits : {t : BindingTable} (c : Call) → Shaped t → length (stepped t c .entries) ≤ t .limit
+pub stepped-fits : {t : BindingTable} (c : Call) → Good t → length (stepped t c .entries) ≤ t .limit
 stepped-fits {t} c s = fits (step-cases t c) (omega (arith, held-length s))
 
--- so the table keeps its shape
-pub shaped-next : {t : BindingTable} (c : Call) → Shaped t → Shaped (next t c)
+-- so the table stays good
+pub good-next : {t : BindingTable} (c : Call) → Good t → Good (next t c)
 unfolding placed
-shaped-next {t} c s =
+good-next {t} c s =
     let xs = stepped t c .entries in
     let few : length xs ≤ t .limit = stepped-fits c s in
     let whole = placed-places t xs (omega arith) (omega arith) (s .places) in
     rw (next-placed c s) (record { within = few; limited = s .limited; places = whole })
 
 -- and its limit
-pub next-limit : {t : BindingTable} (c : Call) → Shaped t → next t c .limit ≡ t .limit
+pub next-limit : {t : BindingTable} (c : Call) → Good t → next t c .limit ≡ t .limit
 unfolding placed
 next-limit c s = rw (next-placed c s)
 
 -- and holds the step's entries
-pub next-held : {t : BindingTable} (c : Call) → Shaped t → held (next t c) ≡ stepped t c .entries
+pub next-held : {t : BindingTable} (c : Call) → Good t → held (next t c) ≡ stepped t c .entries
 next-held {t} c s = rw (next-placed c s) (placed-held t (stepped t c .entries))

@@ -10,10 +10,11 @@ use Rattle.zigbee_types.specs.Outcome.{answer}
 use Rattle.aps_binding.specs.Held.{Step}
 use Rattle.aps_binding.specs.Table.{emptyTable, goodTable, held, placed}
 use Rattle.aps_binding.specs.declared.binding.BindingTable.{BindingTable}
+use Rattle.aps_binding.proofs.Good.{Good, good-table, held-length}
 use Rattle.aps_binding.proofs.Holds.{length-without}
 use Rattle.demands.specs.Calls.{Call, bind, unbind, told, next, after}
 use Rattle.demands.specs.History.{succeeded, adds, removes, howMany, History}
-use Rattle.demands.proofs.Calls.{Stepped, again, full, added, removed, absent, step-cases, Shaped, good-shaped, held-length, told-refused, next-refused, told-step, next-placed, shaped-next}
+use Rattle.demands.proofs.Calls.{Stepped, again, full, added, removed, absent, step-cases, told-refused, next-refused, told-step, next-placed, good-next}
 
 -- ---- one call
 
@@ -35,7 +36,7 @@ balanced t (removed b h) e = rw e (omega (arith, length-without b (held t) h))
 balanced t (absent b h) e = rw e
 
 -- so it is with a good table
-balanced-step : {t : BindingTable} (c : Call) → Shaped t → Balanced t c
+balanced-step : {t : BindingTable} (c : Call) → Good t → Balanced t c
 unfolding placed
 balanced-step {t} c s = rw (next-placed c s) (omega (arith, held-length s, balanced t (step-cases t c) (told-step c s)))
 
@@ -53,8 +54,8 @@ turn t c e = go (goodTable t) refl
   where
     go : (good : Bool) → goodTable t ≡ good → (length (next t c .entries) ≡ 32) × Balanced t c
     go true g =
-        let s = good-shaped t e g in
-        (shaped-next c s .places, balanced-step c s)
+        let s = good-table t e g in
+        (good-next c s .places, balanced-step c s)
     go false g = (rw (next-refused t c g) e, balanced-refused t c g)
 
 history-from :

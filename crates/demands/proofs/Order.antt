@@ -11,11 +11,12 @@ use Rattle.aps_binding.specs.Held.{Step, holds, without}
 use Rattle.aps_binding.specs.Table.{emptyTable, held}
 use Rattle.aps_binding.specs.declared.binding.Binding.{Binding}
 use Rattle.aps_binding.specs.declared.binding.BindingTable.{BindingTable}
+use Rattle.aps_binding.proofs.Good.{Good, empty-good, held-length}
 use Rattle.aps_binding.proofs.Holds.{not-same, last-keeps, last-held, last-within, holds-other, length-without}
 use Rattle.demands.specs.Calls.{Call, next, after}
 use Rattle.demands.specs.Reached.{distinct}
 use Rattle.demands.specs.Order.{Agree, equal, room, kept, Ordered, Order}
-use Rattle.demands.proofs.Calls.{stepped, Stepped, again, full, added, removed, absent, step-cases, Shaped, empty-shaped, held-length, told-step, shaped-next, next-limit, next-held}
+use Rattle.demands.proofs.Calls.{stepped, Stepped, again, full, added, removed, absent, step-cases, told-step, good-next, next-limit, next-held}
 use Rattle.demands.proofs.Distinct.{distinct-last, distinct-without, holds-gone}
 
 -- ---- one step
@@ -98,8 +99,8 @@ module _ {m n : ℕ} {xs ys : List Binding} (a : Ahead m n xs ys) where
 -- ---- tables
 
 record Behind (t u : BindingTable) : Type 0 where
-  less : Shaped t
-  more : Shaped u
+  less : Good t
+  more : Good u
   ahead : Ahead (t .limit) (u .limit) (held t) (held u)
 
 stepped-next : {t u : BindingTable} (c : Call) → Behind t u → Next (t .limit) (u .limit) (stepped t c) (stepped u c)
@@ -111,8 +112,8 @@ stepped-next {t} {u} c r =
 behind-next : {t u : BindingTable} (c : Call) → Behind t u → Behind (next t c) (next u c)
 behind-next c r =
     record {
-      less = shaped-next c (r .less);
-      more = shaped-next c (r .more);
+      less = good-next c (r .less);
+      more = good-next c (r .more);
       ahead = rw (next-held c (r .less), next-held c (r .more), next-limit c (r .less), next-limit c (r .more)) (stepped-next c r .0);
     }
 
@@ -133,8 +134,8 @@ unfolding emptyTable held distinct
 order less more h l cs =
     let start : Behind (emptyTable less) (emptyTable more) =
     record {
-      less = empty-shaped less (omega arith);
-      more = empty-shaped more (omega arith);
+      less = empty-good less (omega arith);
+      more = empty-good more (omega arith);
       ahead = record { sub = λ c e. e; once = refl; spare = omega arith };
     } in
     behind-ordered (behind-after cs start)

@@ -11,11 +11,12 @@ use Rattle.aps_binding.specs.Held.{Step}
 use Rattle.aps_binding.specs.Table.{emptyTable, held, placed}
 use Rattle.aps_binding.specs.declared.binding.Binding.{Binding}
 use Rattle.aps_binding.specs.declared.binding.BindingTable.{BindingTable}
+use Rattle.aps_binding.proofs.Good.{Good, empty-good}
 use Rattle.aps_binding.proofs.Placed.{placed-held, placed-places, placed-unused}
 use Rattle.aps_binding.proofs.Holds.{all-without}
 use Rattle.demands.specs.Calls.{Call, next, after}
 use Rattle.demands.specs.Reached.{Built, group, device, entryOf, AllBuilt, distinct, formed, Reached, ReachedFromEmpty}
-use Rattle.demands.proofs.Calls.{stepped, Stepped, again, full, added, removed, absent, step-cases, Shaped, empty-shaped, next-placed, stepped-fits}
+use Rattle.demands.proofs.Calls.{stepped, Stepped, again, full, added, removed, absent, step-cases, next-placed, stepped-fits}
 use Rattle.demands.proofs.Distinct.{distinct-last, distinct-without}
 
 -- ---- entries
@@ -41,8 +42,8 @@ kept (absent b h) built k = k
 
 -- ---- tables
 
-shaped : {t : BindingTable} → Reached t → Shaped t
-shaped r = record { within = r .within; limited = r .limited; places = r .places }
+good : {t : BindingTable} → Reached t → Good t
+good r = record { within = r .within; limited = r .limited; places = r .places }
 
 -- entries that are so, and within the limit, may be placed
 reached-placed : {t : BindingTable} → Reached t → (xs : List Binding) → Kept xs → length xs ≤ t .limit → Reached (placed t xs)
@@ -61,7 +62,7 @@ reached-placed {t} r xs k n =
 
 reached-next : {t : BindingTable} (c : Call) → Built (entryOf c) → Reached t → Reached (next t c)
 reached-next {t} c built r =
-    let s = shaped r in
+    let s = good r in
     rw (next-placed c s) (reached-placed r (stepped t c .entries) (kept (step-cases t c) built (r .once, r .modes)) (stepped-fits c s))
 
 reached-after : {t : BindingTable} (cs : List Call) → AllBuilt cs → Reached t → Reached (after t cs)
@@ -72,7 +73,7 @@ reached-after (c ∷ cs) (first, rest) r = reached-after cs rest (reached-next c
 empty-reached : (limit : ℕ) → limit ≤ 32 → Reached (emptyTable limit)
 unfolding emptyTable held distinct all
 empty-reached limit h =
-    let s = empty-shaped limit h in
+    let s = empty-good limit h in
     record { once = refl; within = s .within; zeros = refl; modes = refl; places = s .places; limited = s .limited }
 
 pub reached-from-empty : ReachedFromEmpty

@@ -1,11 +1,12 @@
 -- `create_binding_link` meets its contract, at each of its ways out. Assumes nothing.
 use borrow.Author.Needs.{needs}
 use Rattle.aps_binding.proofs.Search.{length-mapped}
-use Rattle.aps_binding.proofs.Links.{good-table, count-fits, create-refused, create-held, create-full, create-room, create-added}
+use Rattle.aps_binding.proofs.Good.{count-fits}
+use Rattle.aps_binding.proofs.Links.{tested-good, create-refused, create-held, create-full, create-room, create-added}
 use Rattle.aps_binding.proofs.binding.create_binding_link.Statement.{statement}
 use Rattle.aps_binding.proofs.binding.create_binding_link.Tie as tie
 
-ruleset laws = (needs, length-mapped, good-table, count-fits, create-refused, create-held, create-full, create-room, create-added)
+ruleset laws = (needs, length-mapped, count-fits, tested-good, create-refused, create-held, create-full, create-room, create-added)
 
 pub create-binding-link-spec : {M : Type 1} → statement M
 create-binding-link-spec =

@@ -1,11 +1,12 @@
 -- `remove_binding_link` meets its contract, at each of its ways out. Assumes nothing.
 use borrow.Author.Needs.{needs}
 use Rattle.aps_binding.proofs.Search.{length-mapped}
-use Rattle.aps_binding.proofs.Links.{good-table, count-fits, remove-refused, remove-none, remove-below, remove-found}
+use Rattle.aps_binding.proofs.Good.{count-fits}
+use Rattle.aps_binding.proofs.Links.{tested-good, remove-refused, remove-none, remove-below, remove-found}
 use Rattle.aps_binding.proofs.binding.remove_binding_link.Statement.{statement}
 use Rattle.aps_binding.proofs.binding.remove_binding_link.Tie as tie
 
-ruleset laws = (needs, length-mapped, good-table, count-fits, remove-refused, remove-none, remove-below, remove-found)
+ruleset laws = (needs, length-mapped, count-fits, tested-good, remove-refused, remove-none, remove-below, remove-found)
 
 pub remove-binding-link-spec : {M : Type 1} → statement M
 remove-binding-link-spec =
