@@ -1,5 +1,7 @@
 // The program of counter-cases: runs the library on inputs of document 01 and of docs/DIFFERENCES.md, and prints what it gives.
-// Its file stdout has what document 01 says. Today: the descriptors in K1 to K6, and the fields of K10's bind request, read and put back.
+// Its file stdout has what document 01 says. Today: the descriptors in K1 to K6, the fields of K10's bind request, read
+// and put back, and the binding table in K11.
+mod bindings;
 mod descriptors;
 mod fields;
 mod print;
@@ -13,4 +15,5 @@ fn main() {
     descriptors::k5();
     descriptors::k6();
     fields::k10();
+    bindings::k11();
 }

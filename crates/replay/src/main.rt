@@ -1,9 +1,11 @@
 // Answers questions about the library: a question on each line of standard input, and its answer on a line of standard output
 // (oracle/README.md, "Lines"). The input may be of any length.
+mod bindings;
 mod bits;
 mod descriptors;
 mod fields;
 mod flags;
+mod links;
 mod node;
 mod out;
 mod power;
@@ -31,6 +33,14 @@ fn answer(line: &[u8], space: &mut [u8], clusters: &mut [u16], out: &mut [u8], a
         return next;
     }
     let next = descriptors::answer(line, space, clusters, out, at);
+    if next > at {
+        return next;
+    }
+    let next = bindings::answer(line, out, at);
+    if next > at {
+        return next;
+    }
+    let next = links::answer(line, out, at);
     if next > at {
         return next;
     }

@@ -11,6 +11,7 @@
 //     S            power sources
 //     N            a node
 //     P            a power
+//     B            an entry of the binding table
 // What reads a word takes any word: one of another kind gives some number, or some bytes.
 use crate::values;
 ghost use Prim.Native.Nat.{_≤_, _<_};
@@ -43,7 +44,7 @@ pub(crate) fn asks(line: &[u8], question: &[u8]) -> bool {
 }
 
 // Whether the first word of a line is this name.
-fn is_named(line: &[u8], name: &[u8]) -> bool {
+pub(crate) fn is_named(line: &[u8], name: &[u8]) -> bool {
     let end = name.len();
     if line.len() <= end {
         return check::same(line, name);
@@ -68,6 +69,7 @@ fn is_of(word: &[u8], kind: u8) -> bool {
         b'S' => is_sources(word),
         b'N' => is_node(word),
         b'P' => is_power(word),
+        b'B' => is_entry(word),
         _ => false,
     }
 }
@@ -156,8 +158,17 @@ fn is_power(word: &[u8]) -> bool {
     values::is_value(u16_at(word, 4), b'l')
 }
 
+// Whether a word says an entry: 12 digits where its mode is 01, and 26 where it is 03.
+pub(crate) fn is_entry(word: &[u8]) -> bool {
+    match u8_at(word, 0) {
+        1 => is_hex(word, 12),
+        3 => is_hex(word, 26),
+        _ => false,
+    }
+}
+
 // Whether a word is a number in decimal, of at most nine digits, and without a zero in front that it does not need.
-fn is_decimal(word: &[u8]) -> bool {
+pub(crate) fn is_decimal(word: &[u8]) -> bool {
     if word.len() == 0 {
         return false;
     }
@@ -291,6 +302,22 @@ pub(crate) fn u16_at(word: &[u8], at: usize) -> u16 {
     ((u8_at(word, at) as u16) << 8) | (u8_at(word, at + 1) as u16)
 }
 
+// The number of four bytes of a word that stands behind so many bytes, the high byte first.
+fn u32_at(word: &[u8], at: usize) -> u32 {
+    if word.len() / 2 <= at {
+        return 0;
+    }
+    ((u16_at(word, at) as u32) << 16) | (u16_at(word, at + 2) as u32)
+}
+
+// The number of eight bytes of a word that stands behind so many bytes, the high byte first.
+pub(crate) fn u64_at(word: &[u8], at: usize) -> u64 {
+    if word.len() / 2 <= at {
+        return 0;
+    }
+    ((u32_at(word, at) as u64) << 32) | (u32_at(word, at + 4) as u64)
+}
+
 // The number that the digits of a word say in base 10 or 16.
 fn value(word: &[u8], base: u8) -> u64 {
     let mut sum: u64 = 0;
@@ -308,6 +335,20 @@ fn with_digit(number: u64, base: u8, last: u8) -> u64 {
         return number % 1000000000000000000 * 10 + (last as u64);
     }
     (number << 4) | (last as u64)
+}
+
+// How many words stand behind the name of a question.
+pub(crate) fn arguments(line: &[u8]) -> usize {
+    let mut spaces: usize = 0;
+    let mut i: usize = 0;
+    while i < line.len() {
+        let character = line[i];
+        i += 1;
+        if character == b' ' {
+            spaces += 1;
+        }
+    }
+    spaces
 }
 
 // The word of a line that stands behind so many spaces, or an empty one where there is none.

@@ -1,6 +1,6 @@
 //! Entries of the binding table, and histories of it.
 
-use super::terms::{self, Digits, Words, address, record};
+use super::terms::{self, Digits, Words, address};
 use super::{Claim, Part, part};
 use crate::words;
 
@@ -172,20 +172,23 @@ fn links(mut question: Words, answer: &str) -> Option<Vec<Part>> {
             true => last.clone(),
             false => table(limit, held.len(), &held)?,
         };
-        parts.push(link(&before, *step, status, &next)?);
+        parts.extend(link(&before, *step, status, &next)?);
         before = next;
     }
     Some(parts)
 }
 
-/// One step.
-fn link(before: &str, (binds, word): (bool, &str), status: &str, after: &str) -> Option<Part> {
+/// One step: what it tells, and the table that it leaves.
+fn link(before: &str, (binds, word): (bool, &str), status: &str, after: &str) -> Option<[Part; 2]> {
     let definition = if binds {
         "createBindingLink"
     } else {
         "removeBindingLink"
     };
-    let left = format!("{definition} {before} {}", entry(word)?.term());
-    let told = record(&[("table", after), ("status", &terms::number(status, 2)?)]);
-    Some(part(left, format!("answer {told}")))
+    let call = format!("({definition} {before} {})", entry(word)?.term());
+    let told = format!("answer {}", terms::number(status, 2)?);
+    Some([
+        part(format!("linkTold {call}"), told),
+        part(format!("tableLeft {before} {call}"), after.to_string()),
+    ])
 }

@@ -1,0 +1,198 @@
+// K11, nos. 7 and 8 of docs/DIFFERENCES.md, and more of the binding table. A table is printed with its first three places, held
+// or not, so that a freed place, and what is left alone, shows.
+use crate::print;
+use aps_binding::binding::Binding;
+use aps_binding::binding::BindingTable;
+use aps_binding::binding::LinkStatus;
+use aps_binding::binding::Linked;
+use aps_binding::binding::create_binding_link;
+use aps_binding::binding::remove_binding_link;
+use zigbee_types::GroupAddress;
+use zigbee_types::IeeeAddress;
+
+// The entry of K10's request.
+fn entry_a() -> Binding {
+    Binding::group(1, 0x0402, GroupAddress(0x0003))
+}
+
+// The same to another group.
+fn entry_b() -> Binding {
+    Binding::group(1, 0x0402, GroupAddress(0x0004))
+}
+
+// The same to endpoint 1 of a device.
+fn entry_c() -> Binding {
+    Binding::device(1, 0x0402, IeeeAddress(0xF8F7F6F5F4F3F2F1), 1)
+}
+
+// What stands in an unused place.
+fn unused() -> Binding {
+    Binding::group(0, 0, GroupAddress(0))
+}
+
+// The steps of K11, with its two limits, and the cases beside it.
+pub(crate) fn k11() {
+    five_steps(1);
+    five_steps(2);
+    bad_tables();
+    more_steps();
+    routes();
+    equal();
+}
+
+// Bind A, bind B, unbind A, bind C, unbind B, in an empty table of this limit.
+fn five_steps(limit: usize) {
+    print::text(b"K11 limit");
+    print::decimal(limit);
+    let table = bind(BindingTable::new(limit), entry_a());
+    let table = bind(table, entry_b());
+    let table = unbind(table, entry_a());
+    let table = bind(table, entry_c());
+    let table = unbind(table, entry_b());
+    print_table(table);
+}
+
+// A bind into a table whose limit is too high, and an unbind from one that holds more than its limit.
+fn bad_tables() {
+    print::text(b"difference 7");
+    print_table(bind(BindingTable::new(33), entry_a()));
+    print::text(b"difference 8");
+    let table = table_of(1, 2, entry_a(), entry_b(), unused());
+    print_table(unbind(table, entry_a()));
+}
+
+// A bind of an entry that a full table holds; an unbind of one that is held twice; and a bind and an unbind where something stands
+// behind the places in use.
+fn more_steps() {
+    print::text(b"bind A again in a full table");
+    let table = table_of(2, 2, entry_a(), entry_b(), unused());
+    print_table(bind(table, entry_a()));
+    print::text(b"unbind A of A, B, A");
+    let table = table_of(3, 3, entry_a(), entry_b(), entry_a());
+    print_table(unbind(table, entry_a()));
+    print::text(b"bind B before an unused C");
+    let table = table_of(3, 1, entry_a(), unused(), entry_c());
+    print_table(bind(table, entry_b()));
+    print::text(b"unbind A before an unused C");
+    let table = table_of(3, 2, entry_a(), entry_b(), entry_c());
+    print_table(unbind(table, entry_a()));
+}
+
+// A table made by hand: its limit, its count, and what stands in its first three places.
+fn table_of(
+    limit: usize,
+    count: usize,
+    first: Binding,
+    second: Binding,
+    third: Binding,
+) -> BindingTable {
+    let mut table = BindingTable::new(limit);
+    table.entries[0] = first;
+    table.entries[1] = second;
+    table.entries[2] = third;
+    table.count = count;
+    table
+}
+
+// Binds, and prints the status.
+fn bind(table: BindingTable, binding: Binding) -> BindingTable {
+    told(create_binding_link(table, binding))
+}
+
+// Unbinds, and prints the status.
+fn unbind(table: BindingTable, binding: Binding) -> BindingTable {
+    told(remove_binding_link(table, binding))
+}
+
+// The table after a step, whose status is printed.
+fn told(linked: Linked) -> BindingTable {
+    let status = linked.status;
+    print_status(status);
+    linked.table
+}
+
+// A status by document 01's number, or a refusal.
+fn print_status(status: LinkStatus) {
+    match status {
+        LinkStatus::Success => print::byte(0x00),
+        LinkStatus::InvalidBinding => print::byte(0x88),
+        LinkStatus::TableFull => print::byte(0x8C),
+        LinkStatus::Refused(why) => print::refusal(why),
+    }
+}
+
+// Ends the line, and prints a table: its limit and its count, and a line for each of its first three places.
+fn print_table(table: BindingTable) {
+    print::text(b"\n  limit");
+    print::decimal(table.limit);
+    print::text(b" count");
+    print::decimal(table.count);
+    print_place(0, table.entries[0]);
+    print_place(1, table.entries[1]);
+    print_place(2, table.entries[2]);
+    print::text(b"\n");
+}
+
+// A line for a place, with all fields of the entry there.
+fn print_place(place: usize, entry: Binding) {
+    print::text(b"\n  place");
+    print::decimal(place);
+    print::byte(entry.src_endpoint);
+    print::hex(entry.cluster_id as u64, 4);
+    print::byte(entry.dst_addr_mode);
+    print::hex(entry.dst_group.0 as u64, 4);
+    print::hex(entry.dst_ieee.0, 16);
+    print::byte(entry.dst_endpoint);
+}
+
+// Whether A routes traffic of its own endpoint and cluster, of another endpoint, and of another cluster.
+fn routes() {
+    print::text(b"A matches");
+    print_flag(entry_a().matches(1, 0x0402));
+    print_flag(entry_a().matches(2, 0x0402));
+    print_flag(entry_a().matches(1, 0x0403));
+    print::text(b"\n");
+}
+
+// Whether A equals itself, and each entry that differs from it in one field, in the address once at each end.
+fn equal() {
+    print::text(b"A equals");
+    print_equal(entry_of(1, 0x0402, 1, 0x0003, 0, 0));
+    print_equal(entry_of(2, 0x0402, 1, 0x0003, 0, 0));
+    print_equal(entry_of(1, 0x0403, 1, 0x0003, 0, 0));
+    print_equal(entry_of(1, 0x0402, 3, 0x0003, 0, 0));
+    print_equal(entry_of(1, 0x0402, 1, 0x0004, 0, 0));
+    print_equal(entry_of(1, 0x0402, 1, 0x0003, 1, 0));
+    print_equal(entry_of(1, 0x0402, 1, 0x0003, 0x8000000000000000, 0));
+    print_equal(entry_of(1, 0x0402, 1, 0x0003, 0, 1));
+    print::text(b"\n");
+}
+
+// The entry of these fields, in the order in which they are printed.
+fn entry_of(
+    src_endpoint: u8,
+    cluster_id: u16,
+    dst_addr_mode: u8,
+    dst_group: u16,
+    dst_ieee: u64,
+    dst_endpoint: u8,
+) -> Binding {
+    Binding {
+        dst_ieee: IeeeAddress(dst_ieee),
+        cluster_id,
+        src_endpoint,
+        dst_addr_mode,
+        dst_group: GroupAddress(dst_group),
+        dst_endpoint,
+    }
+}
+
+// Whether A equals an entry.
+fn print_equal(entry: Binding) {
+    print_flag(entry_a().eq(entry));
+}
+
+// A flag, 0 or 1.
+fn print_flag(flag: bool) {
+    print::decimal(flag as usize);
+}
