@@ -41,7 +41,12 @@ module _ {t : BindingTable} (g : Good t) where
   unfolding held
   held-length = length-take-le (t .count) (t .entries) count-inside
 
-  -- and is not refused
+  -- it passes the test
+  pub good-tested : goodTable t ≡ true
+  unfolding goodTable
+  good-tested = rw (le-leb (t .count) (t .limit) (g .within), le-leb (t .limit) 32 (g .limited))
+
+  -- and so is not refused
   pub on-good : (s : Step) → onGood t s ≡ answer s
-  unfolding onGood goodTable
-  on-good s = rw (le-leb (t .count) (t .limit) (g .within), le-leb (t .limit) 32 (g .limited))
+  unfolding onGood
+  on-good s = rw good-tested

@@ -7,7 +7,7 @@ use mathlib.Core.List.{[], _∷_, _++_, append-nil}
 use lib.ListN.{length, take, length-append, take-append-drop}
 use lib.Seq.{length-take-le, set-split, append-snoc}
 use Rattle.aps_binding.specs.Table.{held, placed}
-use Rattle.aps_binding.specs.Places.{HeldStays, AddedStands, FreedUnused}
+use Rattle.aps_binding.specs.Places.{HeldStays, AddedStands, FreedZeros}
 
 pub held-stays : HeldStays
 unfolding held placed
@@ -27,9 +27,9 @@ added-stands t b h =
     let more : max (t .count) (t .count + 1) ≡ t .count + 1 = omega arith in
     rw (n, none, more, append-nil, append-snoc, set-split (t .entries) (t .count) b h, add-one)
 
-pub freed-unused : FreedUnused
+pub freed-zeros : FreedZeros
 unfolding placed
-freed-unused t xs e h =
+freed-zeros t xs e h =
     let one : t .count - length xs ≡ 1 = omega arith in
     let all : max (t .count) (length xs) ≡ t .count = omega arith in
     let n : length xs ≡ t .count - 1 = omega arith in

@@ -8,11 +8,11 @@ use native.Mathlib.Omega.{arith}
 use lib.ListN.{length, getD, set, take, drop, length-append, length-drop}
 use lib.Seq.{paste, paste-zero, paste-suc, drop-paste, length-paste-head, getD-drop, length-take-le, take-take, take-add, drop-at, drop-cons, set-at, append-snoc}
 use Rattle.zigbee_types.specs.Addresses.{groupOf}
-use Rattle.aps_binding.specs.Entry.{groupBinding, unused}
+use Rattle.aps_binding.specs.Entry.{groupBinding, zeroBinding}
 use Rattle.aps_binding.specs.Table.{held, placed}
 use Rattle.aps_binding.specs.declared.binding.Binding.{Binding}
 use Rattle.aps_binding.specs.declared.binding.BindingTable.{BindingTable}
-use Rattle.aps_binding.proofs.Places.{freed-unused}
+use Rattle.aps_binding.proofs.Places.{freed-zeros}
 
 -- ---- any list
 
@@ -102,11 +102,11 @@ module _ {t u : BindingTable} {at i : ℕ} (p : Shifted t at i u) where
       → t .count - 1 ≤ i
       → b ≡ groupBinding 0 0 (groupOf 0)
       → record { entries = set (u .entries) (t .count - 1) b; limit = u .limit; count = t .count - 1 } ≡ placed t (cut at (held t))
-  unfolding held unused
+  unfolding held zeroBinding
   shifted-end h e =
       let last : t .count - 1 ≡ i = omega (arith, p .below) in
       let all : i + 1 ≡ t .count = omega (arith, p .below) in
       let n : length (take (t .count) (t .entries)) ≡ t .count = length-take-le (t .count) (t .entries) (p .fits) in
       let l : length (cut at (take (t .count) (t .entries))) + 1 ≡ t .count =
       rw (length-cut at (take (t .count) (t .entries)) (omega (arith, p .from, p .below))) n in
-      rw (freed-unused t (cut at (take (t .count) (t .entries))) l (p .fits), append-snoc, last, p .entries, p .limited, e, moved-last (t .entries) at (i - at) i moves unused (omega (arith, p .below, p .fits)), all)
+      rw (freed-zeros t (cut at (take (t .count) (t .entries))) l (p .fits), append-snoc, last, p .entries, p .limited, e, moved-last (t .entries) at (i - at) i moves zeroBinding (omega (arith, p .below, p .fits)), all)

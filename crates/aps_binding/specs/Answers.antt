@@ -6,7 +6,7 @@ use Rattle.zigbee_types.specs.Statuses.{SUCCESS, NO-ENTRY, TABLE-FULL}
 use Rattle.aps_binding.specs.declared.binding.LinkStatus.{LinkStatus}
 use Rattle.aps_binding.specs.declared.binding.LinkStatus.the-variants as link
 
--- its status, or why it was refused
+-- its status, or why it was refused. `InvalidBinding` is the Rust's name for an entry to remove that is not held.
 unfoldable pub linkSays : LinkStatus → Outcome ℕ
 linkSays link.Success = answer SUCCESS
 linkSays link.InvalidBinding = answer NO-ENTRY

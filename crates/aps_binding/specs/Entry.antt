@@ -1,6 +1,6 @@
 -- Entries of the binding table (2.2.8.2.1), and when two are the same.
 use Prim.Native.Nat.{ℕ}
-use mathlib.Core.Bool.{Bool, true, false, _&&_}
+use mathlib.Core.Bool.{Bool, true, false, _&&_, _||_}
 use mathlib.Core.List.{List, [], _∷_}
 use lib.Dec.{eqb}
 use Rattle.zigbee_types.specs.Addresses.{ieeeOf, groupOf}
@@ -26,15 +26,16 @@ abbrev pub deviceBinding : ℕ → ℕ → IeeeAddress → ℕ → Binding
 deviceBinding endpoint cluster a to =
     record { «dst_ieee» = a; «cluster_id» = cluster; «src_endpoint» = endpoint; «dst_addr_mode» = DEVICE; «dst_group» = groupOf 0; «dst_endpoint» = to }
 
--- what an unused place holds: the group binding of zeros (document 01)
-unfoldable pub unused : Binding
-unused = groupBinding 0 0 (groupOf 0)
+-- the group binding of zeros: what an unused place holds in a table reached from empty, and what unbind puts into the place that
+-- it frees (document 01)
+unfoldable pub zeroBinding : Binding
+zeroBinding = groupBinding 0 0 (groupOf 0)
 
 -- does an entry route traffic of this endpoint and cluster?
 abbrev pub routes : Binding → ℕ → ℕ → Bool
 routes b endpoint cluster = eqb (b .«src_endpoint») endpoint && eqb (b .«cluster_id») cluster
 
--- what tells entries apart, the number that differs most often first
+-- what tells entries apart, in the order in which it is compared
 unfoldable pub key : Binding → List ℕ
 key b = b .«cluster_id» ∷ b .«src_endpoint» ∷ b .«dst_ieee» .0 ∷ b .«dst_endpoint» ∷ b .«dst_group» .0 ∷ b .«dst_addr_mode» ∷ []
 
@@ -48,3 +49,9 @@ alike (x ∷ xs) (y ∷ ys) = eqb x y && alike xs ys
 -- two entries are the same if they have one key
 unfoldable pub same : Binding → Binding → Bool
 same a b = alike (key a) (key b)
+
+-- an entry as `group` or `device` builds them: mode 1 or 3, and the fields of the other destination zero
+unfoldable pub formed : Binding → Bool
+formed b =
+    eqb (b .«dst_addr_mode») GROUP && eqb (b .«dst_ieee» .0) 0 && eqb (b .«dst_endpoint») 0
+    || eqb (b .«dst_addr_mode») DEVICE && eqb (b .«dst_group» .0) 0

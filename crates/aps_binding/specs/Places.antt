@@ -4,7 +4,7 @@ use Prim.Native.Nat.{_+_, _-_, _≤_, _<_}
 use mathlib.Core.Path.{_≡_}
 use mathlib.Core.List.{List, [], _∷_, _++_}
 use lib.ListN.{length, set, drop}
-use Rattle.aps_binding.specs.Entry.{unused}
+use Rattle.aps_binding.specs.Entry.{zeroBinding}
 use Rattle.aps_binding.specs.Table.{held, placed}
 use Rattle.aps_binding.specs.declared.binding.Binding.{Binding}
 use Rattle.aps_binding.specs.declared.binding.BindingTable.{BindingTable}
@@ -20,10 +20,10 @@ AddedStands =
     → t .count < length (t .entries)
     → placed t (held t ++ (b ∷ [])) ≡ record { entries = set (t .entries) (t .count) b; limit = t .limit; count = t .count + 1 }
 
--- with one entry fewer, the place that is freed is unused and all behind it stays
-abbrev pub FreedUnused : Type 0
-FreedUnused =
+-- with one entry fewer, the place that is freed holds zeros and all behind it stays
+abbrev pub FreedZeros : Type 0
+FreedZeros =
     (t : BindingTable) (xs : List Binding)
     → length xs + 1 ≡ t .count
     → t .count ≤ length (t .entries)
-    → placed t xs ≡ record { entries = xs ++ (unused ∷ []) ++ drop (t .count) (t .entries); limit = t .limit; count = t .count - 1 }
+    → placed t xs ≡ record { entries = xs ++ (zeroBinding ∷ []) ++ drop (t .count) (t .entries); limit = t .limit; count = t .count - 1 }

@@ -6,20 +6,20 @@ use mathlib.Core.List.{List, _++_}
 use lib.Dec.{leb}
 use lib.ListN.{length, take, drop, replicate}
 use Rattle.zigbee_types.specs.Outcome.{Outcome, answer, refusal, mapped}
-use Rattle.aps_binding.specs.Entry.{unused}
+use Rattle.aps_binding.specs.Entry.{zeroBinding}
 use Rattle.aps_binding.specs.Held.{Step, bound, unbound}
 use Rattle.aps_binding.specs.declared.binding.Binding.{Binding}
 use Rattle.aps_binding.specs.declared.binding.BindingTable.{BindingTable}
 
 -- a table that holds nothing yet
 unfoldable pub emptyTable : ℕ → BindingTable
-emptyTable limit = record { entries = replicate 32 unused; limit = limit; count = 0 }
+emptyTable limit = record { entries = replicate 32 zeroBinding; limit = limit; count = 0 }
 
 -- the count is within the limit, and the limit within the places
 abbrev pub goodSizes : ℕ → ℕ → Bool
 goodSizes count limit = leb count limit && leb limit 32
 
--- refusal 1 is given for any other. What stands in unused places does not matter.
+-- is a table good? Refusal 1 is given for one that is not. What stands in unused places does not matter.
 unfoldable pub goodTable : BindingTable → Bool
 goodTable t = goodSizes (t .count) (t .limit)
 
@@ -27,12 +27,13 @@ goodTable t = goodSizes (t .count) (t .limit)
 unfoldable pub held : BindingTable → List Binding
 held t = take (t .count) (t .entries)
 
--- the table once it holds xs: these come first, a place that they no longer use is unused, and what stood behind stays. After
--- a bind xs is one longer and nothing is freed; after an unbind it is one shorter and one place is freed.
+-- the table once it holds xs: these come first, a place that they no longer use holds zeros, and what stood behind stays. After a
+-- bind that added, xs is one longer and nothing is freed; after an unbind that removed, it is one shorter and one place is freed;
+-- otherwise xs is what is held, and the table is as it was (`HeldStays`).
 unfoldable pub placed : BindingTable → List Binding → BindingTable
 placed t xs =
     record {
-      entries = xs ++ replicate (t .count - length xs) unused ++ drop (max (t .count) (length xs)) (t .entries);
+      entries = xs ++ replicate (t .count - length xs) zeroBinding ++ drop (max (t .count) (length xs)) (t .entries);
       limit = t .limit;
       count = length xs;
     }

@@ -71,7 +71,7 @@ impl Binding {
         (self.src_endpoint == src_endpoint) & (self.cluster_id == cluster_id)
     }
 
-    // Whether two entries have one key, the number that differs most often first.
+    // Whether two entries have one key.
     pub fn eq(self, other: Binding) -> bool
         ensures { λ r. ⌜ r ≡ same self other ⌝ }
     {
@@ -92,7 +92,7 @@ pub struct BindingTable {
 }
 
 impl BindingTable {
-    // A table that holds nothing yet.
+    // A table that holds nothing yet. With a limit above 32 it is one that every call refuses.
     pub fn new(limit: usize) -> Self
         ensures { λ r. ⌜ r ≡ emptyTable limit ⌝ }
     {
@@ -160,7 +160,7 @@ pub struct Linked {
     pub status: LinkStatus,
 }
 
-// Create a binding link (2.2.4.3.1). An exact duplicate is success, in a full table too.
+// Create a binding link (2.2.4.3.1). An entry already held is success, in a full table too.
 pub fn create_binding_link(table: BindingTable, binding: Binding) -> Linked
     ensures { λ r. ⌜ Leaves (createBindingLink table binding) table (linkSays (r .status)) (r .table) ⌝ }
 {
@@ -191,7 +191,7 @@ pub fn create_binding_link(table: BindingTable, binding: Binding) -> Linked
     }
 }
 
-// Remove a binding link (2.2.4.3.3).
+// Remove a binding link (2.2.4.3.3). The first equal entry goes, and the rest keep their order.
 pub fn remove_binding_link(table: BindingTable, binding: Binding) -> Linked
     ensures { λ r. ⌜ Leaves (removeBindingLink table binding) table (linkSays (r .status)) (r .table) ⌝ }
 {

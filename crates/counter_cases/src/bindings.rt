@@ -38,6 +38,7 @@ pub(crate) fn k11() {
     more_steps();
     routes();
     equal();
+    modes();
 }
 
 // Bind A, bind B, unbind A, bind C, unbind B, in an empty table of this limit.
@@ -165,6 +166,14 @@ fn equal() {
     print_equal(entry_of(1, 0x0402, 1, 0x0003, 1, 0));
     print_equal(entry_of(1, 0x0402, 1, 0x0003, 0x8000000000000000, 0));
     print_equal(entry_of(1, 0x0402, 1, 0x0003, 0, 1));
+    print::text(b"\n");
+}
+
+// The two mode numbers.
+fn modes() {
+    print::text(b"modes");
+    print::byte(Binding::GROUP);
+    print::byte(Binding::DEVICE);
     print::text(b"\n");
 }
 

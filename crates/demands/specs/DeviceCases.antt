@@ -1,15 +1,10 @@
--- Cases of device tables and of the binding table: matching, numbers that repeat, parts of pools, tables that are refused. What
--- the definitions say stands on one side, and literals on the other (`Case`).
+-- Cases of device tables: matching, numbers that repeat, parts of pools, tables that are refused. What the definitions say stands on
+-- one side, and literals on the other (`Case`).
 use Prim.Native.Nat.{ℕ}
-use mathlib.Core.List.{List, [], _∷_, map}
+use mathlib.Core.List.{[], _∷_}
 use lib.ListN.{length, take, replicate}
-use Rattle.zigbee_types.specs.Outcome.{Outcome, answer, refusal, mapped, begunLength, begun}
-use Rattle.zigbee_types.specs.Addresses.{ieeeOf, shortOf}
-use Rattle.aps_binding.specs.Entry.{deviceBinding, unused, key}
-use Rattle.aps_binding.specs.Held.{Step}
-use Rattle.aps_binding.specs.Table.{emptyTable, createBindingLink, removeBindingLink, tableLeft}
-use Rattle.aps_binding.specs.declared.binding.Binding.{Binding}
-use Rattle.aps_binding.specs.declared.binding.BindingTable.{BindingTable}
+use Rattle.zigbee_types.specs.Outcome.{answer, refusal, mapped, begunLength, begun}
+use Rattle.zigbee_types.specs.Addresses.{shortOf}
 use Rattle.zdo_requests.specs.declared.descriptor.MatchDescReq.{MatchDescReq}
 use Rattle.zdo_replies.specs.Replies.{listRsp}
 use Rattle.zdo_device.specs.Tables.{endpointClusters}
@@ -18,7 +13,7 @@ use Rattle.zdo_device.specs.TableReplies.{activeRecords, activeEpRsp, simpleDes
 use Rattle.zdo_device.specs.declared.descriptor.DeviceDescriptorConfig.{DeviceDescriptorConfig}
 use Rattle.zdo_device.specs.declared.descriptor.Side.the-variants.{Input, Output}
 use Rattle.demands.specs.OurDevice.{endpoint1, endpoint2, ourPools, ourDescriptors, endpointAt, deviceOf}
-use Rattle.demands.specs.Cases.{Case, found, counting, joined}
+use Rattle.demands.specs.Cases.{Case, found}
 
 -- a list that is shorter than the buffer: how many are written, and the buffer then; the buffer after a refusal. Another
 -- profile; 0xFFFF with an input that both endpoints have; an output; an output asked for as an input; the second of two inputs
@@ -169,39 +164,5 @@ TableChecks =
           ∷ answer (1 ∷ [])
           ∷ refusal 3
           ∷ refusal 3
-          ∷ [];
-    }
-
--- the status that a call tells, then the count, the limit and the key of the first entry of the table that it leaves
-abbrev pub linkNumbers : (BindingTable → Binding → Outcome Step) → BindingTable → Binding → Outcome (List ℕ)
-linkNumbers call t b =
-    let u = tableLeft t (call t b) in
-    mapped (λ s. s .status ∷ u .count ∷ u .limit ∷ joined (map key (take 1 (u .entries)))) (call t b)
-
--- of tables of zeros, some of them held in four: a device binding is bound with room, in a full table and in an empty one; the
--- group binding of zeros is bound with a limit of 33, and unbound where it is held, where nothing is, and with a count above
--- the limit
-unfoldable pub Links : Case
-Links =
-    record {
-      says =
-          linkNumbers createBindingLink (counting 2 1) (deviceBinding 1 0x0402 (ieeeOf 9) 2)
-          ∷ linkNumbers createBindingLink (counting 1 1) (deviceBinding 1 0x0402 (ieeeOf 9) 2)
-          ∷ linkNumbers createBindingLink (emptyTable 1) (deviceBinding 1 0x0402 (ieeeOf 9) 2)
-          ∷ linkNumbers createBindingLink (emptyTable 1) unused
-          ∷ linkNumbers createBindingLink (emptyTable 33) unused
-          ∷ linkNumbers removeBindingLink (counting 1 1) unused
-          ∷ linkNumbers removeBindingLink (emptyTable 1) unused
-          ∷ linkNumbers removeBindingLink (counting 1 2) unused
-          ∷ [];
-      expected =
-          answer (0x00 ∷ 2 ∷ 2 ∷ 0 ∷ 0 ∷ 0 ∷ 0 ∷ 0 ∷ 1 ∷ [])
-          ∷ answer (0x8C ∷ 1 ∷ 1 ∷ 0 ∷ 0 ∷ 0 ∷ 0 ∷ 0 ∷ 1 ∷ [])
-          ∷ answer (0x00 ∷ 1 ∷ 1 ∷ 0x0402 ∷ 1 ∷ 9 ∷ 2 ∷ 0 ∷ 3 ∷ [])
-          ∷ answer (0x00 ∷ 1 ∷ 1 ∷ 0 ∷ 0 ∷ 0 ∷ 0 ∷ 0 ∷ 1 ∷ [])
-          ∷ refusal 1
-          ∷ answer (0x00 ∷ 0 ∷ 1 ∷ 0 ∷ 0 ∷ 0 ∷ 0 ∷ 0 ∷ 1 ∷ [])
-          ∷ answer (0x88 ∷ 0 ∷ 1 ∷ 0 ∷ 0 ∷ 0 ∷ 0 ∷ 0 ∷ 1 ∷ [])
-          ∷ refusal 1
           ∷ [];
     }

@@ -17,12 +17,13 @@ pub data Agree : Outcome ℕ → Outcome ℕ → Type 0 where
   room : Agree (answer TABLE-FULL) (answer SUCCESS)
   kept : Agree (answer NO-ENTRY) (answer SUCCESS)
 
--- every entry held in a first table is held in a second, and whatever is called next, what is told agrees
+-- every entry held in a first table is held in a second, and whatever call comes next, what is told agrees
 pub record Ordered (t u : BindingTable) : Type 0 where
   pub entries : (b : Binding) → holds b (held t) ≡ true → holds b (held u) ≡ true
   pub statuses : (c : Call) → Agree (told t c) (told u c)
 
--- so it is at each step of two runs of the same calls, from empty, the second with an equal or larger limit, both at most 32
+-- so it is at each step of two runs of the same calls, from empty, the second with an equal or larger limit, both at most 32: cs are
+-- the calls so far, and `statuses` speaks of the next one
 abbrev pub Order : Type 0
 Order =
     (less more : ℕ)

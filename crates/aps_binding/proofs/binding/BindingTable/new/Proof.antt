@@ -1,12 +1,12 @@
 -- `BindingTable::new` meets its contract: its places are those of the empty table. Assumes nothing.
 use borrow.Author.Needs.{needs}
-use Rattle.aps_binding.specs.Entry.{unused}
+use Rattle.aps_binding.specs.Entry.{zeroBinding}
 use Rattle.aps_binding.specs.Table.{emptyTable}
 use Rattle.aps_binding.proofs.binding.BindingTable.new.Statement.{statement}
 use Rattle.aps_binding.proofs.binding.BindingTable.new.Tie as tie
 
 returns : tie.Need-returns
-unfolding emptyTable unused
+unfolding emptyTable zeroBinding
 returns c = rw (c .group .ensures)
 
 pub new-spec : {M : Type 1} → statement M
