@@ -1,13 +1,13 @@
 // K10's bind request, field by field.
 use crate::print;
+use byte::read_u8;
+use byte::read_u16;
+use byte::read_u64;
+use byte::write_u8;
+use byte::write_u16;
+use byte::write_u64;
 use zigbee_types::GroupAddress;
 use zigbee_types::IeeeAddress;
-use zigbee_types::byte::read_u8;
-use zigbee_types::byte::read_u16;
-use zigbee_types::byte::read_u64;
-use zigbee_types::byte::write_u8;
-use zigbee_types::byte::write_u16;
-use zigbee_types::byte::write_u64;
 
 // The fields of a bind request to a group (2.4.3.2.2).
 struct Fields {

@@ -1,10 +1,10 @@
 // What a device says of itself: the configuration that the node descriptor is written from (000; 2.3.2.3).
 use crate::LogicalType;
 use crate::NODE_DESCRIPTOR_SIZE;
+use byte::write_u8;
+use byte::write_u16;
 use zigbee_types::Refusal;
 use zigbee_types::Written;
-use zigbee_types::byte::write_u8;
-use zigbee_types::byte::write_u16;
 ghost use mathlib.Core.Path.{_≡_};
 ghost use Rattle.zigbee_types.specs.Outcome.{answer, Wrote};
 ghost use Rattle.zigbee_types.specs.Answers.{writtenSays};

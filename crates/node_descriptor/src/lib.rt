@@ -1,10 +1,10 @@
 // The node descriptor as it is read (001; 2.3.2.3).
 pub mod descriptor;
 
+use byte::bit_at;
+use byte::read_u8;
+use byte::read_u16;
 use zigbee_types::Refusal;
-use zigbee_types::byte::bit_at;
-use zigbee_types::byte::read_u8;
-use zigbee_types::byte::read_u16;
 ghost use mathlib.Core.Path.{_≡_};
 ghost use Prim.Native.Nat.{_%_};
 ghost use Rattle.zigbee_types.specs.Bytes.{bitAt};

@@ -1,9 +1,9 @@
 // The node power descriptor as it is read (002; 2.3.2.4).
 pub mod descriptor;
 
+use byte::nibble;
+use byte::read_u8;
 use zigbee_types::Refusal;
-use zigbee_types::byte::nibble;
-use zigbee_types::byte::read_u8;
 ghost use mathlib.Core.Path.{_≡_};
 ghost use Prim.Native.Nat.{_/_, _%_};
 ghost use Rattle.node_power_descriptor.specs.PowerDescriptor.{modeNumber, modeBits, currentPowerMode, sourceNumber, sourceBits, powerSource, levelNumber, levelBits, currentPowerSourceLevel, sourceBitmap, powerDescriptorIn, powerSays, powerFields, supports, usable};

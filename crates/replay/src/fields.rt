@@ -3,7 +3,6 @@
 use crate::out;
 use crate::words;
 use crate::words::asks;
-use zigbee_types::byte;
 ghost use Prim.Native.Nat.{_<_};
 
 // A field of one, two or eight bytes.

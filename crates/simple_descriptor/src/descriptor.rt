@@ -1,9 +1,9 @@
 // The writer of a simple descriptor (000, `EndpointDescriptor::write`; 2.3.2.5).
+use byte::nibble;
+use byte::write_u8;
+use byte::write_u16;
 use zigbee_types::Refusal;
 use zigbee_types::Written;
-use zigbee_types::byte::nibble;
-use zigbee_types::byte::write_u8;
-use zigbee_types::byte::write_u16;
 ghost use Prim.Native.Nat.{_+_, _*_, _≤_};
 ghost use lib.ListN.{length};
 ghost use Rattle.zigbee_types.specs.Outcome.{Wrote};

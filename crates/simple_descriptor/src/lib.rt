@@ -1,13 +1,14 @@
 // The simple descriptor as it is read (2.3.2.5).
 pub mod descriptor;
 
+use byte::lists;
+use byte::nibble;
+use byte::read_u8;
+use byte::read_u16;
 use zigbee_types::ClusterLists;
 use zigbee_types::ClusterListsRead;
 use zigbee_types::Places;
 use zigbee_types::Refusal;
-use zigbee_types::byte::nibble;
-use zigbee_types::byte::read_u8;
-use zigbee_types::byte::read_u16;
 ghost use mathlib.Core.Path.{_≡_};
 ghost use Prim.Native.Nat.{_≤_};
 ghost use lib.ListN.{length};
@@ -35,7 +36,7 @@ impl SimpleDescriptorFields {
     pub fn try_read(bytes: &[u8]) -> SimpleDescriptorRead
         ensures { λ r. ⌜ simpleSays r ≡ simpleDescriptorIn (now (bytes .entry)) ⌝ }
     {
-        let read = ClusterLists::try_read(bytes, 6);
+        let read = lists::try_read(bytes, 6);
         match read {
             ClusterListsRead::Lists(lists) =>
                 SimpleDescriptorRead::Descriptor(SimpleDescriptorFields::read(bytes, lists)),

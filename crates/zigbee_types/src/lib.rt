@@ -1,8 +1,5 @@
 // What every layer shares: addresses, the places of lists, what a writer answers, and refusals. (The Rust's crate of this name is
 // not shown. Of what stands here its users write `IeeeAddress`; the other names are added.)
-pub mod byte;
-pub mod lists;
-
 ghost use mathlib.Core.Path.{_≡_};
 ghost use Rattle.zigbee_types.specs.Refusals.{refusalNumber};
 

@@ -1,7 +1,0 @@
--- `nibble` is the number modulo 16. Assumes nothing.
-use lib.Bits.{and-mask}
-use Rattle.zigbee_types.proofs.byte.nibble.Statement.{statement}
-use Rattle.zigbee_types.proofs.byte.nibble.Tie as tie
-
-pub nibble-spec : {M : Type 1} → statement M
-nibble-spec = tie.close (tie.spec (λ c. and-mask (c .args .x) 4))
