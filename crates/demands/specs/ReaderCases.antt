@@ -12,14 +12,14 @@ use Rattle.zigbee_types.specs.Addresses.{groupOf}
 use Rattle.zigbee_types.specs.declared.Places.{Places}
 use Rattle.node_descriptor.specs.NodeDescriptor.{typeBits, logicalType, defaultNode, nodeDescriptor, nodeDescriptorIn, nodeFields}
 use Rattle.node_power_descriptor.specs.PowerDescriptor.{sourceBitmap, powerDescriptor, powerDescriptorIn, powerFields, supports, modeBits, currentPowerMode, sourceBits, powerSource, levelBits, currentPowerSourceLevel}
-use Rattle.node_descriptor.specs.Flags.{frequencyBandFlag, macCapabilityFlag, serverMaskFlag, descriptorCapabilityFlag}
+use Rattle.node_flags.specs.Flags.{frequencyBandFlag, macCapabilityFlag, serverMaskFlag, descriptorCapabilityFlag}
 use Rattle.simple_descriptor.specs.SimpleDescriptor.{simpleDescriptorIn}
 use Rattle.node_descriptor.specs.declared.descriptor.NodeDescriptorConfig.{NodeDescriptorConfig}
 use Rattle.node_descriptor.specs.declared.LogicalType.the-variants as type
-use Rattle.node_descriptor.specs.declared.FrequencyBandFlag.the-variants.{Low, Mid, High, EuropeanFSK}
-use Rattle.node_descriptor.specs.declared.MacCapabilityFlag.the-variants.{AlternatePanCoordinator, DeviceType, PowerSource, ReceiverOnWhenIdle, SecurityCapability, AllocateAddress}
-use Rattle.node_descriptor.specs.declared.ServerMaskFlag.the-variants.{PrimaryTrustCenter, BackupTrustCenter, PrimaryBindingTableCache, BackupBindingTableCache, PrimaryDiscoveryCache, BackupDiscoveryCache, NetworkManager}
-use Rattle.node_descriptor.specs.declared.DescriptorCapabilityFlag.the-variants.{ExtendedActiveEndpontListAvailable, ExtendedSimpleDescriptorListAvailable}
+use Rattle.node_flags.specs.declared.FrequencyBandFlag.the-variants.{Low, Mid, High, EuropeanFSK}
+use Rattle.node_flags.specs.declared.MacCapabilityFlag.the-variants.{AlternatePanCoordinator, DeviceType, PowerSource, ReceiverOnWhenIdle, SecurityCapability, AllocateAddress}
+use Rattle.node_flags.specs.declared.ServerMaskFlag.the-variants.{PrimaryTrustCenter, BackupTrustCenter, PrimaryBindingTableCache, BackupBindingTableCache, PrimaryDiscoveryCache, BackupDiscoveryCache, NetworkManager}
+use Rattle.node_flags.specs.declared.DescriptorCapabilityFlag.the-variants.{ExtendedActiveEndpontListAvailable, ExtendedSimpleDescriptorListAvailable}
 use Rattle.node_power_descriptor.specs.declared.CurrentPowerMode.the-variants as mode
 use Rattle.node_power_descriptor.specs.declared.PowerSource.{PowerSource as Source}
 use Rattle.node_power_descriptor.specs.declared.PowerSource.the-variants as source

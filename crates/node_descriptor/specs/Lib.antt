@@ -1,3 +1,2 @@
 pub mod NodeDescriptor
-pub mod Flags
 pub mod Bits

@@ -122,7 +122,3 @@ nodeFields d =
       «maximum_outgoing_transfer_size» = d .«maximum_outgoing_transfer_size»;
       «descriptor_capability_field» = d .«descriptor_capability_field»;
     }
-
--- the stack revision in the upper seven bits of a server mask (2.3.2.3.10)
-abbrev pub stackRevision : ℕ → ℕ
-stackRevision mask = mask / 512

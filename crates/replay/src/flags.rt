@@ -2,14 +2,14 @@
 use crate::out;
 use crate::words;
 use crate::words::asks;
-use node_descriptor::DescriptorCapabilities;
-use node_descriptor::DescriptorCapabilityFlag;
-use node_descriptor::FrequencyBandFlag;
-use node_descriptor::FrequencyBands;
-use node_descriptor::MacCapabilities;
-use node_descriptor::MacCapabilityFlag;
-use node_descriptor::ServerMask;
-use node_descriptor::ServerMaskFlag;
+use node_flags::DescriptorCapabilities;
+use node_flags::DescriptorCapabilityFlag;
+use node_flags::FrequencyBandFlag;
+use node_flags::FrequencyBands;
+use node_flags::MacCapabilities;
+use node_flags::MacCapabilityFlag;
+use node_flags::ServerMask;
+use node_flags::ServerMaskFlag;
 
 // What a line asks about flags: which are set in a field, or the revision in a server mask.
 enum Question {

@@ -12,7 +12,8 @@ use Rattle.zigbee_types.specs.Layout.{parsed, counted, behind}
 use Rattle.zigbee_types.specs.Addresses.{ieeeOf, shortOf}
 use Rattle.zigbee_types.specs.Statuses.{SUCCESS}
 use Rattle.zigbee_types.specs.declared.Places.{Places}
-use Rattle.node_descriptor.specs.NodeDescriptor.{nodeDescriptorIn, stackRevision}
+use Rattle.node_flags.specs.Flags.{stackRevision}
+use Rattle.node_descriptor.specs.NodeDescriptor.{nodeDescriptorIn}
 use Rattle.node_power_descriptor.specs.PowerDescriptor.{powerDescriptorIn}
 use Rattle.simple_descriptor.specs.SimpleDescriptor.{simpleDescriptorIn}
 use Rattle.simple_descriptor.specs.declared.SimpleDescriptorFields.{SimpleDescriptorFields}

@@ -8,8 +8,9 @@ use std::path::Path;
 use super::Part;
 
 /// The crates whose definitions the equations cite.
-const CITED: [&str; 9] = [
+const CITED: [&str; 10] = [
     "zigbee_types",
+    "node_flags",
     "node_descriptor",
     "node_power_descriptor",
     "simple_descriptor",
