@@ -1,21 +1,22 @@
 -- Which entries a list holds with one put last, and without one. Assumes nothing.
-use Prim.Native.Nat.{ℕ, _+_}
+use Prim.Native.Nat.{_+_}
 use native.Mathlib.Omega.{arith}
-use mathlib.Core.Path.{_≡_, refl, sym, ap, _∙_}
+use mathlib.Core.Path.{_≡_, refl, sym, _∙_}
 use mathlib.Core.Bool.{Bool, true, false, _||_, cond, true≢false, false≢true, or-true, and-eq-true-iff}
 use mathlib.Core.List.{List, [], _∷_, _++_}
 use lib.ListN.{length}
 use Rattle.zigbee_types.specs.Lists.{any, all}
 use Rattle.zigbee_types.proofs.Elements.{any-last}
-use Rattle.aps_binding.specs.Entry.{key, alike, same}
+use Rattle.aps_binding.specs.Entry.{same}
 use Rattle.aps_binding.specs.Held.{holds, without}
 use Rattle.aps_binding.specs.declared.binding.Binding.{Binding}
-use Rattle.aps_binding.proofs.Same.{same-key, same-refl, same-sym, same-like}
+use Rattle.aps_binding.proofs.Same.{same-refl, same-sym, same-like}
 
 -- an entry is held where a same one is
 pub holds-like : (b c : Binding) (xs : List Binding) → same b c ≡ true → holds b xs ≡ holds c xs
-unfolding holds same
-holds-like b c xs e = ap (λ (k : List ℕ). any (λ x. alike k (key x)) xs) (same-key b c e)
+unfolding holds any
+holds-like b c [] e = refl
+holds-like b c (x ∷ xs) e = rw (same-like b c x e, holds-like b c xs e)
 
 -- so an entry that is held is not the same as one that is not
 pub not-same : (b c : Binding) (xs : List Binding) → holds b xs ≡ false → holds c xs ≡ true → same b c ≡ false

@@ -1,6 +1,7 @@
--- Entries are the same exactly if they have one key; so `same` is an equivalence. Assumes nothing.
+-- Entries are the same exactly if they have one key, so each is the same as itself, and it does not matter which of two comes first
+-- or which of two same ones is asked. Assumes nothing.
 use Prim.Native.Nat.{ℕ}
-use mathlib.Core.Path.{_≡_, refl, sym, _∙_}
+use mathlib.Core.Path.{_≡_, refl, sym}
 use mathlib.Core.Bool.{Bool, true, false, false≢true, and-eq-true-iff}
 use mathlib.Core.List.{List, [], _∷_}
 use lib.Dec.{eqb}
@@ -46,10 +47,7 @@ one-test false false f g = refl
 pub same-sym : (a b : Binding) → same a b ≡ same b a
 same-sym a b = one-test (same a b) (same b a) (λ e. key-same b a (sym (same-key a b e))) (λ e. key-same a b (sym (same-key b a e)))
 
--- the same entry is the same as the same others
+-- same entries are the same as the same others
 pub same-like : (a b c : Binding) → same a b ≡ true → same a c ≡ same b c
 unfolding same
 same-like a b c e = rw (same-key a b e)
-
-pub same-trans : (a b c : Binding) → same a b ≡ true → same b c ≡ true → same a c ≡ true
-same-trans a b c e f = same-like a b c e ∙ f

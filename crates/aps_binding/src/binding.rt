@@ -71,7 +71,7 @@ impl Binding {
         (self.src_endpoint == src_endpoint) & (self.cluster_id == cluster_id)
     }
 
-    // Whether two entries have one key.
+    // Whether two entries are the same: in all six fields, as the Rust derives it.
     pub fn eq(self, other: Binding) -> bool
         ensures { λ r. ⌜ r ≡ same self other ⌝ }
     {

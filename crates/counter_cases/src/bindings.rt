@@ -53,13 +53,15 @@ fn five_steps(limit: usize) {
     print_table(table);
 }
 
-// A bind into a table whose limit is too high, and an unbind from one that holds more than its limit.
+// A bind and an unbind with a limit that is too high, and an unbind and a bind with a count above the limit.
 fn bad_tables() {
     print::text(b"difference 7");
-    print_table(bind(BindingTable::new(33), entry_a()));
+    let table = bind(BindingTable::new(33), entry_a());
+    print_table(unbind(table, entry_a()));
     print::text(b"difference 8");
     let table = table_of(1, 2, entry_a(), entry_b(), unused());
-    print_table(unbind(table, entry_a()));
+    let table = unbind(table, entry_a());
+    print_table(bind(table, entry_c()));
 }
 
 // A bind of an entry that a full table holds; an unbind of one that is held twice; and a bind and an unbind where something stands

@@ -15,9 +15,12 @@ use Rattle.aps_binding.proofs.Good.{Good, empty-good, held-length}
 use Rattle.aps_binding.proofs.Holds.{not-same, last-keeps, last-held, last-within, holds-other, length-without}
 use Rattle.demands.specs.Calls.{Call, next, after}
 use Rattle.demands.specs.Reached.{distinct}
-use Rattle.demands.specs.Order.{Agree, equal, room, kept, Ordered, Order}
+use Rattle.demands.specs.Order.{Agree, equal, room, kept, SuccessKept, Ordered, Order}
 use Rattle.demands.proofs.Calls.{stepped, Stepped, again, full, added, removed, absent, step-cases, told-step, good-next, next-limit, next-held}
 use Rattle.demands.proofs.Distinct.{distinct-last, distinct-without, holds-gone}
+
+pub success-kept : SuccessKept
+success-kept o (equal _) = refl
 
 -- ---- one step
 

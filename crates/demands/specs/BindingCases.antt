@@ -1,4 +1,4 @@
--- Cases of the binding table: equality, what single calls tell and leave, and what sequences leave. What the definitions say stands
+-- Cases of the binding table: equality, what single calls tell and leave, what sequences leave, and what they count. What the definitions say stands
 -- on one side, and literals on the other (`Case`).
 use Prim.Native.Nat.{ℕ}
 use mathlib.Core.List.{List, [], _∷_, _++_, map}
@@ -14,7 +14,8 @@ use Rattle.aps_binding.specs.Answers.{linkSays}
 use Rattle.aps_binding.specs.declared.binding.Binding.{Binding}
 use Rattle.aps_binding.specs.declared.binding.BindingTable.{BindingTable}
 use Rattle.aps_binding.specs.declared.binding.LinkStatus.the-variants as link
-use Rattle.demands.specs.Calls.{bind, unbind, next, after}
+use Rattle.demands.specs.Calls.{Call, bind, unbind, next, after}
+use Rattle.demands.specs.History.{adds, removes, howMany}
 use Rattle.demands.specs.Cases.{Case, counting, joined}
 
 -- ---- entries
@@ -74,9 +75,9 @@ linkNumbers call t b =
     let u = tableLeft t (call t b) in
     mapped (λ s. s .status ∷ u .count ∷ u .limit ∷ joined (map key (take 1 (u .entries)))) (call t b)
 
--- in a table of zeros, a device binding is bound with room and without; it is bound in an empty table, and so is the group binding
--- of zeros; that is refused with a limit of 33; it is unbound where it is held, where nothing is, and refused with a count above the
--- limit
+-- A device binding is bound in a table of zeros, with room and without, and in an empty table. The group binding of zeros is bound
+-- in an empty table, and refused with a limit of 33. It is unbound where it is held, and where nothing is, and refused with a count
+-- above the limit.
 unfoldable pub Links : Case
 Links =
     record {
@@ -143,4 +144,21 @@ LeftTables =
           ∷ answer (2 ∷ 1 ∷ 0x0402 ∷ 1 ∷ 0 ∷ 0 ∷ 3 ∷ 1 ∷ 0x0402 ∷ 1 ∷ 0 ∷ 0 ∷ 4 ∷ 1 ∷ 0x0402 ∷ 1 ∷ 9 ∷ 2 ∷ 0 ∷ 3 ∷ 0x0402 ∷ 1 ∷ 9 ∷ 2 ∷ 0 ∷ 3 ∷ [])
           ∷ answer (2 ∷ 1 ∷ 0x0402 ∷ 1 ∷ 0 ∷ 0 ∷ 3 ∷ 1 ∷ 0x0402 ∷ 1 ∷ 0 ∷ 0 ∷ 4 ∷ 1 ∷ 0x0402 ∷ 1 ∷ 9 ∷ 2 ∷ 0 ∷ 3 ∷ 0x0402 ∷ 1 ∷ 9 ∷ 2 ∷ 0 ∷ 3 ∷ [])
           ∷ [];
+    }
+
+-- ---- what is counted
+
+-- the calls of K11
+abbrev pub exchanged : List Call
+exchanged = bind entryA ∷ bind entryB ∷ unbind entryA ∷ bind entryC ∷ unbind entryB ∷ []
+
+-- how many of them added and how many removed, with limits 1 and 2
+unfoldable pub Counted : Case
+Counted =
+    record {
+      says =
+          answer (howMany adds (emptyTable 1) exchanged ∷ howMany removes (emptyTable 1) exchanged ∷ [])
+          ∷ answer (howMany adds (emptyTable 2) exchanged ∷ howMany removes (emptyTable 2) exchanged ∷ [])
+          ∷ [];
+      expected = answer (2 ∷ 1 ∷ []) ∷ answer (3 ∷ 2 ∷ []) ∷ [];
     }

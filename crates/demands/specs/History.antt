@@ -1,5 +1,6 @@
 -- Over any sequence from empty, the count is the binds that added less the unbinds that removed (document 01, "Binding and
--- dispatch"), as a statement. A term of it stands in proofs/. What added and what removed goes by status and by what was held, not by the count.
+-- dispatch"), as a statement. A term of it stands in proofs/. What added and what removed goes by status and by what was held,
+-- not by the count.
 use Prim.Native.Nat.{ℕ, _+_}
 use mathlib.Core.Path.{_≡_}
 use mathlib.Core.Bool.{Bool, false, _&&_, not}

@@ -4,12 +4,12 @@ pub mod CounterCases
 pub mod DispatchCases
 pub mod DeviceCases
 pub mod Calls
+pub mod History
 pub mod BindingCases
 pub mod ReaderCases
 pub mod Claim
 pub mod Frames
 pub mod ReadBack
 pub mod OneAnswer
-pub mod History
 pub mod Reached
 pub mod Order

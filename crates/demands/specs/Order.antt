@@ -1,4 +1,4 @@
--- More room never loses a binding (the third demand, of the table alone), as a statement. A term of it stands in proofs/.
+-- More room never loses a binding (the third demand, of the table alone), as statements. A term of each stands in proofs/.
 use Prim.Native.Nat.{ℕ, _≤_}
 use mathlib.Core.Path.{_≡_}
 use mathlib.Core.Bool.{true}
@@ -16,6 +16,10 @@ pub data Agree : Outcome ℕ → Outcome ℕ → Type 0 where
   equal : (o : Outcome ℕ) → Agree o o
   room : Agree (answer TABLE-FULL) (answer SUCCESS)
   kept : Agree (answer NO-ENTRY) (answer SUCCESS)
+
+-- so what succeeds in the first run succeeds in the second
+abbrev pub SuccessKept : Type 0
+SuccessKept = (o : Outcome ℕ) → Agree (answer SUCCESS) o → o ≡ answer SUCCESS
 
 -- every entry held in a first table is held in a second, and whatever call comes next, what is told agrees
 pub record Ordered (t u : BindingTable) : Type 0 where

@@ -1,10 +1,10 @@
--- Tests of a list with one more element, and a list of one element many times. Assumes nothing.
+-- Tests of a list with one more element, a list of one element many times, and the length of an array of structs. Assumes nothing.
 use Prim.Native.Nat.{ℕ, zero, suc, _-_}
 use native.Mathlib.Omega.{arith}
 use mathlib.Core.Path.{_≡_}
 use mathlib.Core.Bool.{Bool, _||_, _&&_, or-false, or-assoc, and-true, and-assoc}
-use mathlib.Core.List.{List, [], _∷_, _++_}
-use lib.ListN.{drop, replicate}
+use mathlib.Core.List.{List, [], _∷_, _++_, map}
+use lib.ListN.{length, drop, replicate, length-map}
 use Rattle.zigbee_types.specs.Lists.{any, all}
 
 module _ {A : Type 0} where
@@ -27,3 +27,7 @@ module _ {A : Type 0} where
   drop-replicate (suc n) (suc m) a =
       let rest : suc m - suc n ≡ m - n = omega arith in
       rw rest (drop-replicate n m a)
+
+-- an array of structs in a struct has as many elements as its type says
+pub length-mapped : (X Y : Type 0) (f : X → Y) (xs : List X) (n : ℕ) → length (map f xs) ≡ n → length xs ≡ n
+length-mapped X Y f xs n e = rw length-map at e

@@ -1,6 +1,6 @@
 -- `create_binding_link` meets its contract, at each of its ways out. Assumes nothing.
 use borrow.Author.Needs.{needs}
-use Rattle.aps_binding.proofs.Search.{length-mapped}
+use Rattle.zigbee_types.proofs.Elements.{length-mapped}
 use Rattle.aps_binding.proofs.Good.{count-fits}
 use Rattle.aps_binding.proofs.Links.{tested-good, create-refused, create-held, create-full, create-room, create-added}
 use Rattle.aps_binding.proofs.binding.create_binding_link.Statement.{statement}

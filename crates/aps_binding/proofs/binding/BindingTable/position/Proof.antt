@@ -2,7 +2,8 @@
 -- are left. Assumes nothing.
 use Prim.Native.Nat.{_-_}
 use borrow.Author.Needs.{needs}
-use Rattle.aps_binding.proofs.Search.{length-mapped, Passed, passed-first, passed-here, passed-next, passed-end}
+use Rattle.zigbee_types.proofs.Elements.{length-mapped}
+use Rattle.aps_binding.proofs.Search.{Passed, passed-first, passed-here, passed-next, passed-end}
 use Rattle.aps_binding.proofs.binding.BindingTable.position.Statement.{statement}
 use Rattle.aps_binding.proofs.binding.BindingTable.position.Tie as tie
 

@@ -1,6 +1,6 @@
 -- `BindingTable::push` meets its contract. Assumes nothing.
 use borrow.Author.Needs.{needs}
-use Rattle.aps_binding.proofs.Search.{length-mapped}
+use Rattle.zigbee_types.proofs.Elements.{length-mapped}
 use Rattle.aps_binding.proofs.Places.{added-stands}
 use Rattle.aps_binding.proofs.binding.BindingTable.push.Statement.{statement}
 use Rattle.aps_binding.proofs.binding.BindingTable.push.Tie as tie

@@ -2,7 +2,7 @@
 -- measure is how many are left. Assumes nothing.
 use Prim.Native.Nat.{_-_}
 use borrow.Author.Needs.{needs}
-use Rattle.aps_binding.proofs.Search.{length-mapped}
+use Rattle.zigbee_types.proofs.Elements.{length-mapped}
 use Rattle.aps_binding.proofs.Shift.{Shifted, shifted-first, shifted-next, shifted-end}
 use Rattle.aps_binding.proofs.binding.BindingTable.remove.Statement.{statement}
 use Rattle.aps_binding.proofs.binding.BindingTable.remove.Tie as tie
