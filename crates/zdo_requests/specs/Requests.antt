@@ -1,10 +1,10 @@
 -- The ten requests, from bytes to fields (document 01, "Payloads"; 2.4.3). A payload that is shorter than its fields and lists
 -- is refusal 3, and bytes behind them are ignored.
-use Prim.Native.Nat.{ℕ}
+use Prim.Native.Nat.{ℕ, _+_}
 use mathlib.Core.Bool.{cond}
 use mathlib.Core.List.{List, [], _∷_}
 use lib.Dec.{eqb}
-use Rattle.zigbee_types.specs.Outcome.{Outcome, answer, refusal, mapped}
+use Rattle.zigbee_types.specs.Outcome.{Outcome, answer, refusal, mapped, needing}
 use Rattle.zigbee_types.specs.Bytes.{numberAt, bitAt}
 use Rattle.zigbee_types.specs.Layout.{Field, byte, laid, fieldOf, parsed, listsIn}
 use Rattle.zigbee_types.specs.Addresses.{short, ieeeOf, shortOf, groupOf}
@@ -49,7 +49,11 @@ unfoldable pub simpleDescReqIn : List ℕ → Outcome SimpleDescReq
 simpleDescReqIn =
     parsed (1 ∷ 2 ∷ 1 ∷ []) (λ field. record { seq = field 0; «nwk_addr_of_interest» = shortOf (field 1); endpoint = field 2 })
 
--- a match request's first fields, then its lists
+-- a match request begins with seq, short address, profile
+unfoldable pub matchWidths : List ℕ
+matchWidths = 1 ∷ 2 ∷ 2 ∷ []
+
+-- those fields, then the lists
 unfoldable pub matchReqOf : (ℕ → ℕ) → ClusterLists → MatchDescReq
 matchReqOf field lists =
     record {
@@ -60,30 +64,38 @@ matchReqOf field lists =
       «output_clusters» = lists .«output_clusters»;
     }
 
--- 2.4.3.1.7: seq, short address, profile; then inputs, counted at byte 5, and outputs behind them, two bytes for each
--- cluster; refusal 3 where the payload ends before the outputs do
+-- 2.4.3.1.7: inputs, counted at byte 5, and outputs behind them, two bytes for each cluster; refusal 3 where the payload ends
+-- before the outputs do
 unfoldable pub matchDescReqIn : List ℕ → Outcome MatchDescReq
-matchDescReqIn payload = mapped (matchReqOf (fieldOf (1 ∷ 2 ∷ 2 ∷ []) payload)) (listsIn payload 5)
+matchDescReqIn payload = mapped (matchReqOf (fieldOf matchWidths payload)) (listsIn payload 5)
 
--- a bind request's first fields, then its destination
+-- a bind request begins with seq, source address, endpoint, cluster
+unfoldable pub bindWidths : List ℕ
+bindWidths = 1 ∷ 8 ∷ 1 ∷ 2 ∷ []
+
+-- those fields, then the destination
 unfoldable pub bindReqOf : (ℕ → ℕ) → BindReqDestination → BindReq
 bindReqOf field destination =
     record { seq = field 0; «src_address» = ieeeOf (field 1); «src_endpoint» = field 2; «cluster_id» = field 3; destination = destination }
 
--- seq, source address, endpoint, cluster, mode and group: 15 bytes
-unfoldable pub groupReqIn : List ℕ → Outcome BindReq
-groupReqIn = parsed (1 ∷ 8 ∷ 1 ∷ 2 ∷ 1 ∷ 2 ∷ []) (λ field. bindReqOf field (Group (groupOf (field 5))))
+-- a group: two bytes at a place
+unfoldable pub groupIn : List ℕ → ℕ → Outcome BindReqDestination
+groupIn bytes at = needing (at + 2) bytes (Group (groupOf (numberAt 2 bytes at)))
 
--- seq, source address, endpoint, cluster, mode, IEEE address and endpoint: 22 bytes
-unfoldable pub deviceReqIn : List ℕ → Outcome BindReq
-deviceReqIn = parsed (1 ∷ 8 ∷ 1 ∷ 2 ∷ 1 ∷ 8 ∷ 1 ∷ []) (λ field. bindReqOf field (Device (ieeeOf (field 5)) (field 6)))
+-- a device: the eight bytes of its IEEE address at a place, then its endpoint
+unfoldable pub deviceIn : List ℕ → ℕ → Outcome BindReqDestination
+deviceIn bytes at = needing (at + 9) bytes (Device (ieeeOf (numberAt 8 bytes at)) (numberAt 1 bytes (at + 8)))
 
--- 2.4.3.2.2 and 2.4.3.2.3, bind and unbind, by the mode, which is byte 12; any other mode is refusal 3. A payload that ends
--- before it reads as mode 0.
+-- the destination of which the mode is the byte at a place; any other mode is refusal 3. Bytes that end before it have mode 0.
+unfoldable pub destinationIn : List ℕ → ℕ → Outcome BindReqDestination
+destinationIn bytes at =
+    let mode = numberAt 1 bytes at in
+    cond (eqb mode GROUP) (groupIn bytes (at + 1)) (cond (eqb mode DEVICE) (deviceIn bytes (at + 1)) (refusal 3))
+
+-- 2.4.3.2.2 and 2.4.3.2.3, bind and unbind: the destination from byte 12 on, so that a group's request has 15 bytes and a
+-- device's 22
 unfoldable pub bindReqIn : List ℕ → Outcome BindReq
-bindReqIn payload =
-    let mode = numberAt 1 payload 12 in
-    cond (eqb mode GROUP) (groupReqIn payload) (cond (eqb mode DEVICE) (deviceReqIn payload) (refusal 3))
+bindReqIn payload = mapped (bindReqOf (fieldOf bindWidths payload)) (destinationIn payload 12)
 
 -- the entry of an endpoint, a cluster and a destination
 unfoldable pub bindingTo : ℕ → ℕ → BindReqDestination → Binding

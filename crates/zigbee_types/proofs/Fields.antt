@@ -4,8 +4,8 @@ use native.Mathlib.Nat.{add-zero, add-suc, suc-add, mod-eq-of-lt}
 use native.Mathlib.Omega.{arith}
 use mathlib.Core.Path.{_≡_, refl, sym}
 use mathlib.Core.List.{List, [], _∷_, _++_, append-assoc}
-use lib.ListN.{length, take, drop, getD, set}
-use lib.Seq.{sets, length-sets, sets-eq, drop-drop, getD-drop, take-at, drop-at, length-take-le}
+use lib.ListN.{length, take, drop, getD, set, drop-of-length-le}
+use lib.Seq.{sets, length-sets, sets-eq, drop-drop, getD-drop, take-nil, take-at, drop-at, length-take-le}
 use Rattle.zigbee_types.specs.Bytes.{le, number, numberAt, FieldRead, FieldPut}
 use Rattle.zigbee_types.specs.FieldLaws.{PutReadsBack}
 use Rattle.zigbee_types.proofs.Numbers.{le-counted, le-split, le-cut, number-split, number-back}
@@ -23,6 +23,11 @@ pub numberAt-split :
     (j k : ℕ) (s : List ℕ) (at : ℕ) → numberAt (j + k) s at ≡ numberAt j s at + 256 ^ j * numberAt k s (at + j)
 unfolding numberAt
 numberAt-split j k s at = rw (← drop-drop) (number-split j k (drop at s))
+
+-- bytes past the end count as zeros
+pub numberAt-past : (k : ℕ) (s : List ℕ) (at : ℕ) → length s ≤ at → numberAt k s at ≡ 0
+unfolding numberAt number
+numberAt-past k s at h = rw (drop-of-length-le s h, take-nil)
 
 -- the element at a place is the byte there
 pub read-byte : (s : List ℕ) (at : ℕ) → FieldRead 1 s at (getD s at 0) (at + 1)

@@ -41,6 +41,29 @@ pub run-parses :
 unfolding parsed needing
 run-parses make p h = simp (le-leb _ _ h, p .told)
 
+-- of two fields
+pub two-parse :
+    {A : Type 0} {bytes : List ℕ} {a b u v i j : ℕ} {x : A} (make : (ℕ → ℕ) → A)
+    → FieldRead a bytes 0 u i
+    → FieldRead b bytes i v j
+    → a + (b + 0) ≤ length bytes
+    → x ≡ make (λ i. getD (u ∷ v ∷ []) i 0)
+    → answer x ≡ parsed (a ∷ b ∷ []) make bytes
+unfolding size
+two-parse make p q h e = rw e (run-parses make (run-read-more p (run-read-more q run-read-none)) h)
+
+-- of three
+pub three-parse :
+    {A : Type 0} {bytes : List ℕ} {a b c u v w i j k : ℕ} {x : A} (make : (ℕ → ℕ) → A)
+    → FieldRead a bytes 0 u i
+    → FieldRead b bytes i v j
+    → FieldRead c bytes j w k
+    → a + (b + (c + 0)) ≤ length bytes
+    → x ≡ make (λ i. getD (u ∷ v ∷ w ∷ []) i 0)
+    → answer x ≡ parsed (a ∷ b ∷ c ∷ []) make bytes
+unfolding size
+three-parse make p q r h e = rw e (run-parses make (run-read-more p (run-read-more q (run-read-more r run-read-none))) h)
+
 -- and refuses where there are too few bytes
 pub run-short :
     {A : Type 0} (ws bytes : List ℕ) (make : (ℕ → ℕ) → A) → length bytes < size ws → refusal 3 ≡ parsed ws make bytes
