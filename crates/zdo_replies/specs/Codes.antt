@@ -9,7 +9,7 @@ use Rattle.zdo_replies.specs.declared.management.NlmeLeaveStatus.{NlmeLe
 use Rattle.zdo_replies.specs.declared.management.NlmeLeaveStatus.the-variants as leave
 
 -- 2.4.4.3.2 and 2.4.4.3.3
-unfoldable pub bindCode : BindStatus → ℕ
+abbrev pub bindCode : BindStatus → ℕ
 bindCode bind.Success = SUCCESS
 bindCode bind.InvalidEndpoint = INVALID-EP
 bindCode bind.TableFull = TABLE-FULL
@@ -17,12 +17,12 @@ bindCode bind.NoEntry = NO-ENTRY
 bindCode bind.NotSupported = NOT-SUPPORTED
 
 -- 2.4.4.2
-unfoldable pub discoveryCode : DiscoveryError → ℕ
+abbrev pub discoveryCode : DiscoveryError → ℕ
 discoveryCode error.InvalidRequestType = INV-REQUESTTYPE
 discoveryCode error.DeviceNotFound = DEVICE-NOT-FOUND
 
 -- `leave_status` (document 01, "Replies"; 2.4.4.4.5)
-unfoldable pub leaveStatus : NlmeLeaveStatus → ℕ
+abbrev pub leaveStatus : NlmeLeaveStatus → ℕ
 leaveStatus leave.Success = SUCCESS
 leaveStatus leave.InvalidRequest = INV-REQUESTTYPE
 leaveStatus leave.UnknownDevice = DEVICE-NOT-FOUND

@@ -35,10 +35,13 @@ descriptorRspError seq status address = answer (laid (header seq status address)
 
 -- ---- active and match
 
--- 2.4.4.2.6 and 2.4.4.2.7: how many endpoints, and their numbers. Above 255 the count says 255 and all of them are
--- written (document 01).
+-- how many endpoints, and their numbers. Above 255 the count says 255 and all of them are written (document 01).
+unfoldable pub endpointList : List ℕ → List Field
+endpointList endpoints = byte (min (length endpoints) 255) ∷ map byte endpoints
+
+-- 2.4.4.2.6 and 2.4.4.2.7: the list behind the header; 5 bytes and one for each endpoint
 unfoldable pub listRsp : ℕ → ShortAddress → List ℕ → Outcome (List ℕ)
-listRsp seq address endpoints = answer (laid (header seq SUCCESS address ++ byte (min (length endpoints) 255) ∷ []) ++ endpoints)
+listRsp seq address endpoints = answer (laid (header seq SUCCESS address ++ endpointList endpoints))
 
 -- an error of active or simple: a zero in place of the list or the descriptor; 5 bytes
 unfoldable pub emptyRsp : ℕ → ℕ → ShortAddress → Outcome (List ℕ)

@@ -39,6 +39,11 @@ entries-next {i = i} {xs = xs} p h q =
       put = rw (add-one, take-suc xs i 0, map-append) (run-put-last (p .put) q);
     }
 
+-- all of them
+pub entries-all :
+    {w i at n : ℕ} {xs s t : List ℕ} → EntriesPut w xs i s at n t → length xs ≤ i → FieldsPut (map (entry w) xs) s at n t
+entries-all {i = i} {xs = xs} p h = rw (take-all i xs) at (p .put)
+
 -- all of them, behind their count
 pub entries-end :
     {w i at m n : ℕ} {xs s t u : List ℕ}
@@ -47,4 +52,4 @@ pub entries-end :
     → length xs ≤ i
     → FieldsPut (listed w xs) s at n u
 unfolding listed
-entries-end {i = i} {xs = xs} p q h = run-put-more p (rw (take-all i xs) at (q .put))
+entries-end p q h = run-put-more p (entries-all q h)

@@ -53,7 +53,7 @@ widths-entries w [] = refl
 widths-entries w (x ∷ xs) = rw (widths-entries w xs)
 
 -- and take w bytes each
-size-entries : (w : ℕ) (xs : List ℕ) → size (widths (map (entry w) xs)) ≡ w * length xs
+pub size-entries : (w : ℕ) (xs : List ℕ) → size (widths (map (entry w) xs)) ≡ w * length xs
 unfolding size
 size-entries w [] = omega arith
 size-entries w (x ∷ xs) = omega (arith, size-entries w xs)

@@ -5,6 +5,7 @@ pub mod Counted
 pub mod Runs
 pub mod Entries
 pub mod Outcomes
+pub mod Parts
 pub mod Bits
 pub mod Named
 pub mod Elements

@@ -1,0 +1,163 @@
+-- Replies that are written: a header, and what stands behind it. Assumes nothing.
+use Prim.Native.Nat.{ℕ, _+_, _-_, _^_, _≤_, _<_, min}
+use native.Mathlib.Omega.{arith}
+use mathlib.Core.Path.{_≡_}
+use mathlib.Core.Bool.{Bool, true, false, not}
+use mathlib.Core.List.{List, _++_}
+use lib.Dec.{T, ltb}
+use lib.ListN.{length}
+use lib.Seq.{length-sets}
+use borrow.Author.Tests.{not-true, not-false}
+use mir.Facts.{fits-lit}
+use mir.Syntax.{w64}
+use mir.Val.{Fits}
+use borrow.Rule.Slice.PartMut.{midOf, putMid}
+use Rattle.zigbee_types.specs.Outcome.{Outcome, answer, Wrote}
+use Rattle.zigbee_types.specs.Answers.{writtenSays}
+use Rattle.zigbee_types.specs.Bytes.{le, FieldPut}
+use Rattle.zigbee_types.specs.Layout.{Field, laid, size, FieldsPut}
+use Rattle.zigbee_types.specs.FieldLaws.{widths}
+use Rattle.zigbee_types.specs.Statuses.{SUCCESS}
+use Rattle.zigbee_types.specs.declared.IeeeAddress.{IeeeAddress}
+use Rattle.zigbee_types.specs.declared.Refusal.{Refusal}
+use Rattle.zigbee_types.specs.declared.Refusal.the-variants.{ShortBuffer}
+use Rattle.zigbee_types.specs.declared.ShortAddress.{ShortAddress}
+use Rattle.zigbee_types.specs.declared.Written.{Written}
+use Rattle.zigbee_types.specs.declared.Written.the-variants.{Length, Refused}
+use Rattle.zigbee_types.proofs.Entries.{EntriesPut, entries-all}
+use Rattle.zigbee_types.proofs.Layouts.{laid-counted, size-entries}
+use Rattle.zigbee_types.proofs.Outcomes.{refused}
+use Rattle.zigbee_types.proofs.Parts.{part-told, part-put}
+use Rattle.zigbee_types.proofs.Runs.{run-put-one, run-put-more, run-put-told, run-put-last, run-put-both, run-writes, run-full}
+use Rattle.zdo_replies.specs.Replies.{header, descriptorRspError, endpointList, listRsp, emptyRsp, addrHeader, addrRspSingle, addrRspExtended, addrRsp}
+
+-- ---- behind the header
+
+module _ (seq status : ℕ) (a : ShortAddress) {s t : List ℕ} {m : ℕ} (p : FieldsPut (header seq status a) s 0 m t) where
+  -- it has four bytes
+  pub header-place : m ≡ 4
+  unfolding header laid le
+  header-place = p .moved
+
+  -- nothing: an error of node or power
+  pub error-writes : 4 ≤ length s → Wrote (descriptorRspError seq status a) s (writtenSays (Length m)) t
+  unfolding descriptorRspError writtenSays header size
+  error-writes h = run-writes p h
+
+  -- a zero: an error of active or simple
+  pub empty-writes :
+      {n : ℕ} {u : List ℕ} → FieldPut 1 0 t m n u → 5 ≤ length s → Wrote (emptyRsp seq status a) s (writtenSays (Length n)) u
+  unfolding emptyRsp writtenSays header size
+  empty-writes q h = run-writes (run-put-last p q) h
+
+-- a descriptor, by a writer that was lent what is behind the header
+module _
+    (seq : ℕ)
+    (a : ShortAddress)
+    (fs : List Field)
+    {s t v : List ℕ}
+    {m : ℕ}
+    (r : Written)
+    (room : 4 + size (widths fs) ≤ length s)
+    (p : FieldsPut (header seq SUCCESS a) s 0 m t)
+    (w : Wrote (answer (laid fs)) (midOf m (length t - m) t) (writtenSays r) v) where
+  fits : m + length (laid fs) ≤ length t
+  fits =
+      let same : length t ≡ length s = rw (p .left) (length-sets s 0 (laid (header seq SUCCESS a))) in
+      omega (arith, header-place seq SUCCESS a p, laid-counted fs)
+
+  told : writtenSays r ≡ answer (length (laid fs))
+  told = part-told m t (laid fs) fits w
+
+  -- there is room for it, so nothing is said of a refusal
+  pub described-refused :
+      {why : Refusal} {o : Outcome (List ℕ)} {u : List ℕ} → r ≡ Refused why → Wrote o s (writtenSays (Refused why)) u
+  unfolding writtenSays
+  described-refused e = absurd (refused (rw e at told))
+
+  -- the reply's length is a number that the machine has
+  pub described-fits : {n : ℕ} → T (ltb (4 + size (widths fs)) (2 ^ 64)) → r ≡ Length n → Fits w64 (m + n)
+  unfolding writtenSays
+  described-fits {n} h e =
+      let said = rw e at told in
+      let long : n ≡ length (laid fs) = cc in
+      let sum : m + n ≡ 4 + size (widths fs) = omega (arith, header-place seq SUCCESS a p, laid-counted fs) in
+      rw sum (fits-lit h)
+
+  pub described-writes :
+      {n : ℕ} → r ≡ Length n → Wrote (answer (laid (header seq SUCCESS a ++ fs))) s (writtenSays (Length (m + n))) (putMid m (length t - m) t v)
+  unfolding writtenSays header size
+  described-writes e = run-writes (run-put-both p (part-put m t fs fits (rw e at w))) (omega (arith, room))
+
+-- a list of endpoints
+module _ (seq : ℕ) (a : ShortAddress) (xs s : List ℕ) where
+  list-size : size (widths (header seq SUCCESS a ++ endpointList xs)) ≡ 5 + length xs
+  unfolding header endpointList size
+  list-size = omega (arith, size-entries 1 xs)
+
+  -- it is put by one who puts its count, and then its entries
+  pub list-put :
+      {c i at m n : ℕ} {t u v : List ℕ}
+      → c ≡ min (length xs) 255
+      → FieldPut 1 c t at m u
+      → EntriesPut 1 xs i u m n v
+      → length xs ≤ i
+      → FieldsPut (endpointList xs) t at n v
+  unfolding endpointList
+  list-put e p q h = run-put-told p e (entries-all q h)
+
+  pub list-full : length s < 5 + length xs → Wrote (listRsp seq a xs) s (writtenSays (Refused ShortBuffer)) s
+  unfolding listRsp writtenSays
+  list-full h = run-full (header seq SUCCESS a ++ endpointList xs) s (rw list-size h)
+
+  pub list-writes :
+      {m n : ℕ} {t u : List ℕ}
+      → FieldsPut (header seq SUCCESS a) s 0 m t
+      → FieldsPut (endpointList xs) t m n u
+      → 5 + length xs ≤ length s
+      → Wrote (listRsp seq a xs) s (writtenSays (Length n)) u
+  unfolding listRsp writtenSays
+  list-writes p q h = run-writes (run-put-both p q) (rw list-size h)
+
+-- ---- addresses
+
+module _
+    (seq status : ℕ)
+    (l : IeeeAddress)
+    (a : ShortAddress)
+    {s t : List ℕ}
+    {m : ℕ}
+    (p : FieldsPut (addrHeader seq status l a) s 0 m t) where
+  -- they have twelve bytes
+  pub addr-place : m ≡ 12
+  unfolding addrHeader laid le
+  addr-place = p .moved
+
+  -- nothing behind them
+  pub single-writes : 12 ≤ length s → Wrote (addrRspSingle seq status l a) s (writtenSays (Length m)) t
+  unfolding addrRspSingle writtenSays addrHeader size
+  single-writes h = run-writes p h
+
+module _ (seq : ℕ) (l : IeeeAddress) (a : ShortAddress) (extended : Bool) {s : List ℕ} where
+  -- a reply that is not extended
+  pub addr-single :
+      {r : Outcome ℕ} {t : List ℕ} → not extended ≡ true → Wrote (addrRspSingle seq SUCCESS l a) s r t → Wrote (addrRsp seq l a extended) s r t
+  unfolding addrRsp
+  addr-single e w = rw (not-true extended e) w
+
+  -- one that is
+  module _ (e : not extended ≡ false) where
+    pub extended-full : length s < 14 → Wrote (addrRsp seq l a extended) s (writtenSays (Refused ShortBuffer)) s
+    unfolding addrRsp addrRspExtended addrHeader writtenSays size
+    extended-full h = rw (not-false extended e) (run-full _ s h)
+
+    -- two zeros behind them
+    pub extended-writes :
+        {k m n : ℕ} {t u v : List ℕ}
+        → FieldsPut (addrHeader seq SUCCESS l a) s 0 m t
+        → FieldPut 1 0 t m n u
+        → FieldPut 1 0 u n k v
+        → 14 ≤ length s
+        → Wrote (addrRsp seq l a extended) s (writtenSays (Length k)) v
+    unfolding addrRsp addrRspExtended addrHeader writtenSays size
+    extended-writes p q r h = rw (not-false extended e) (run-writes (run-put-both p (run-put-more q (run-put-one r))) h)

@@ -1,0 +1,43 @@
+-- The later part of a buffer, from a place on, lent to a writer: what it writes there is put at that place. Assumes nothing.
+use Prim.Native.Nat.{ℕ, _+_, _-_, _≤_}
+use native.Mathlib.Omega.{arith}
+use mathlib.Core.Path.{_≡_}
+use mathlib.Core.List.{List, [], append-nil, append-assoc}
+use lib.ListN.{length, take, drop, length-drop, drop-of-length-le}
+use lib.Seq.{sets-eq, take-all, drop-drop}
+use borrow.Author.Tests.{le-leb}
+use borrow.Rule.Slice.PartMut.{midOf, putMid}
+use Rattle.zigbee_types.specs.Outcome.{Outcome, answer, mapped, fitted, Wrote}
+use Rattle.zigbee_types.specs.Layout.{Field, laid, FieldsPut}
+use Rattle.zigbee_types.proofs.Outcomes.{wrote-bytes}
+
+module _ (m : ℕ) (t : List ℕ) where
+  -- the part runs to the end
+  part-whole : midOf m (length t - m) t ≡ drop m t
+  part-whole = take-all (length t - m) (drop m t) (rw length-drop (omega arith))
+
+  -- so there is nothing behind it
+  part-last : drop (length t - m) (drop m t) ≡ []
+  part-last = drop-of-length-le (drop m t) {i = length t - m} (rw length-drop (omega arith))
+
+  module _ {v : List ℕ} where
+    -- a writer that has room there tells its length
+    pub part-told :
+        (bytes : List ℕ) {r : Outcome ℕ} → m + length bytes ≤ length t → Wrote (answer bytes) (midOf m (length t - m) t) r v → r ≡ answer (length bytes)
+    unfolding mapped fitted
+    part-told bytes h w =
+        let room : length bytes ≤ length (drop m t) = rw length-drop (omega arith) in
+        rw (part-whole, le-leb _ _ room) at (w .said)
+
+    -- and its fields are put in the whole buffer
+    pub part-put :
+        (fs : List Field) {n : ℕ}
+        → m + length (laid fs) ≤ length t
+        → Wrote (answer (laid fs)) (midOf m (length t - m) t) (answer n) v
+        → FieldsPut fs t m (m + n) (putMid m (length t - m) t v)
+    part-put fs h w =
+        let stands = wrote-bytes w in
+        record {
+          moved = rw (stands .long);
+          left = rw (part-last, append-nil, stands .left, part-whole, drop-drop, sets-eq (laid fs) t m h, append-assoc);
+        }
