@@ -1,0 +1,15 @@
+-- `simple_desc_rsp_error` meets its contract: it is the reply without a list or a descriptor. Assumes nothing.
+use borrow.Author.Needs.{needs}
+use Rattle.zdo_desc_rsp.proofs.descriptor.simple_desc_rsp_error.Statement.{statement}
+use Rattle.zdo_desc_rsp.proofs.descriptor.simple_desc_rsp_error.Tie as tie
+
+ruleset laws = (needs)
+
+pub simple-desc-rsp-error-spec : {M : Type 1} → statement M
+simple-desc-rsp-error-spec =
+    tie.close
+    (tie.spec
+    (λ c κs. search laws)  -- code-requires
+    (λ c κs. search laws)  -- empty-rsp-requires
+    (λ c. search laws)  -- same-length
+    (λ c. rw (← c .before .before .before .before .code .ensures) (search needs)))  -- returns

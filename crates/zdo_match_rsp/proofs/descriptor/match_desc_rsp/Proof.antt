@@ -1,0 +1,22 @@
+-- `match_desc_rsp` meets its contract: the header is put, and the list behind it. Assumes nothing.
+use borrow.Author.Needs.{needs}
+use Rattle.zigbee_types.specs.Bytes.{le}
+use Rattle.zigbee_types.specs.Layout.{laid}
+use Rattle.zdo_replies.specs.Replies.{header}
+use Rattle.zdo_match_rsp.proofs.Written.{list-full, list-writes}
+use Rattle.zdo_match_rsp.proofs.descriptor.match_desc_rsp.Statement.{statement}
+use Rattle.zdo_match_rsp.proofs.descriptor.match_desc_rsp.Tie as tie
+
+ruleset laws = (needs, list-full, list-writes)
+
+pub match-desc-rsp-spec : {M : Type 1} → statement M
+unfolding laid le header
+match-desc-rsp-spec =
+    tie.close
+    (tie.spec
+    (λ c. search laws)  -- add-if1
+    (λ c. search laws)  -- returns
+    (λ c κs. search laws)  -- write-header-requires
+    (λ c κs. search laws)  -- write-endpoints-requires
+    (λ c. search laws)  -- same-length
+    (λ c. search laws))  -- returns-2
