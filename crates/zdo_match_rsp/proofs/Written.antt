@@ -2,18 +2,17 @@
 use Prim.Native.Nat.{ℕ, _+_, _≤_, _<_, min}
 use native.Mathlib.Omega.{arith}
 use mathlib.Core.Path.{_≡_}
-use mathlib.Core.List.{List, _++_}
+use mathlib.Core.List.{List, _++_, map}
 use lib.ListN.{length}
 use Rattle.zigbee_types.specs.Outcome.{Wrote}
 use Rattle.zigbee_types.specs.Answers.{writtenSays}
 use Rattle.zigbee_types.specs.Bytes.{FieldPut}
-use Rattle.zigbee_types.specs.Layout.{size, FieldsPut}
+use Rattle.zigbee_types.specs.Layout.{byte, size, FieldsPut}
 use Rattle.zigbee_types.specs.FieldLaws.{widths}
 use Rattle.zigbee_types.specs.Statuses.{SUCCESS}
 use Rattle.zigbee_types.specs.declared.Refusal.the-variants.{ShortBuffer}
 use Rattle.zigbee_types.specs.declared.ShortAddress.{ShortAddress}
 use Rattle.zigbee_types.specs.declared.Written.the-variants.{Length, Refused}
-use Rattle.zigbee_types.proofs.Entries.{EntriesPut, entries-all}
 use Rattle.zigbee_types.proofs.Layouts.{size-entries}
 use Rattle.zigbee_types.proofs.Runs.{run-put-told, run-put-both, run-writes, run-full}
 use Rattle.zdo_replies.specs.Replies.{header, endpointList, listRsp}
@@ -24,26 +23,17 @@ module _ (seq : ℕ) (a : ShortAddress) (xs s : List ℕ) where
   unfolding header endpointList size
   list-size = omega (arith, size-entries 1 xs)
 
-  -- it is put by one who puts its count, and then its entries
-  pub list-put :
-      {c i at m n : ℕ} {t u v : List ℕ}
-      → c ≡ min (length xs) 255
-      → FieldPut 1 c t at m u
-      → EntriesPut 1 xs i u m n v
-      → length xs ≤ i
-      → FieldsPut (endpointList xs) t at n v
-  unfolding endpointList
-  list-put e p q h = run-put-told p e (entries-all q h)
-
   pub list-full : length s < 5 + length xs → Wrote (listRsp seq a xs) s (writtenSays (Refused ShortBuffer)) s
   unfolding listRsp writtenSays
   list-full h = run-full (header seq SUCCESS a ++ endpointList xs) s (rw list-size h)
 
   pub list-writes :
-      {m n : ℕ} {t u : List ℕ}
+      {c k m n : ℕ} {t u v : List ℕ}
       → FieldsPut (header seq SUCCESS a) s 0 m t
-      → FieldsPut (endpointList xs) t m n u
+      → c ≡ min (length xs) 255
+      → FieldPut 1 c t m n u
+      → FieldsPut (map byte xs) u n k v
       → 5 + length xs ≤ length s
-      → Wrote (listRsp seq a xs) s (writtenSays (Length n)) u
-  unfolding listRsp writtenSays
-  list-writes p q h = run-writes (run-put-both p q) (rw list-size h)
+      → Wrote (listRsp seq a xs) s (writtenSays (Length k)) v
+  unfolding listRsp endpointList writtenSays
+  list-writes p e q r h = run-writes (run-put-both p (run-put-told q e r)) (rw list-size h)

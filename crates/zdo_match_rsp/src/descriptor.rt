@@ -10,9 +10,10 @@ ghost use Prim.Native.Nat.{_+_, _≤_, min};
 ghost use lib.ListN.{length};
 ghost use Rattle.zigbee_types.specs.Outcome.{Wrote};
 ghost use Rattle.zigbee_types.specs.Answers.{writtenSays};
-ghost use Rattle.zigbee_types.specs.Layout.{FieldsPut};
+ghost use mathlib.Core.List.{map};
+ghost use Rattle.zigbee_types.specs.Layout.{byte, FieldsPut};
 ghost use Rattle.zdo_replies.specs.Codes.{discoveryCode};
-ghost use Rattle.zdo_replies.specs.Replies.{endpointList, listRsp, matchDescRspError};
+ghost use Rattle.zdo_replies.specs.Replies.{listRsp, matchDescRspError};
 
 // ZDP status code of a reply that carries data (2.4.5).
 const STATUS_SUCCESS: u8 = 0x00;
@@ -27,12 +28,12 @@ fn count_byte(count: usize) -> u8
     count as u8
 }
 
-// Puts a list of endpoints at a place: how many, then one byte each.
+// Puts a list of endpoints at a place, one byte each.
 fn write_endpoints(out: &mut [u8], at: usize, endpoints: &[u8]) -> usize
-    requires { ⌜ at + 1 + length (now endpoints) ≤ length (now out) ⌝ }
-    ensures { λ r. ⌜ FieldsPut (endpointList (now (endpoints .entry))) (now (out .entry)) at r (now (out .exit)) ⌝ }
+    requires { ⌜ at + length (now endpoints) ≤ length (now out) ⌝ }
+    ensures { λ r. ⌜ FieldsPut (map byte (now (endpoints .entry))) (now (out .entry)) at r (now (out .exit)) ⌝ }
 {
-    let mut at = write_u8(out, at, count_byte(endpoints.len()));
+    let mut at = at;
     let mut i: usize = 0;
     while i < endpoints.len() {
         at = write_u8(out, at, endpoints[i]);
@@ -42,7 +43,7 @@ fn write_endpoints(out: &mut [u8], at: usize, endpoints: &[u8]) -> usize
 }
 
 // Builds a Match_Desc_rsp (2.4.4.2.7): seq, status, NWKAddrOfInterest, MatchLength, MatchList. Given more than 255 endpoints it
-// writes 255 as MatchLength, and all of them.
+// writes 255 as MatchLength, and all of them. Too short a buffer is refused, and nothing is written.
 pub fn match_desc_rsp(seq: u8, nwk_addr: ShortAddress, matches: &[u8], out: &mut [u8]) -> Written
     ensures { λ r. ⌜ Wrote (listRsp seq «nwk_addr» (now (matches .entry))) (now (out .entry)) (writtenSays r) (now (out .exit)) ⌝ }
 {
@@ -50,6 +51,7 @@ pub fn match_desc_rsp(seq: u8, nwk_addr: ShortAddress, matches: &[u8], out: &mut
         return Written::Refused(Refusal::ShortBuffer);
     }
     let at = write_header(out, seq, STATUS_SUCCESS, nwk_addr);
+    let at = write_u8(out, at, count_byte(matches.len()));
     let at = write_endpoints(out, at, matches);
     Written::Length(at)
 }

@@ -1,4 +1,4 @@
--- `match_desc_rsp` meets its contract: the header is put, and the list behind it. Assumes nothing.
+-- `match_desc_rsp` meets its contract: the header is put, then the count and the list. Assumes nothing.
 use borrow.Author.Needs.{needs}
 use Rattle.zigbee_types.specs.Bytes.{le}
 use Rattle.zigbee_types.specs.Layout.{laid}
@@ -17,6 +17,8 @@ match-desc-rsp-spec =
     (λ c. search laws)  -- add-if1
     (λ c. search laws)  -- returns
     (λ c κs. search laws)  -- write-header-requires
+    (λ c κs. search laws)  -- count-byte-requires
+    (λ c κs. search laws)  -- write-u8-requires
     (λ c κs. search laws)  -- write-endpoints-requires
     (λ c. search laws)  -- same-length
     (λ c. search laws))  -- returns-2
