@@ -31,7 +31,7 @@ fn count_byte(count: usize) -> u8
 // Puts a list of endpoints at a place, one byte each.
 fn write_endpoints(out: &mut [u8], at: usize, endpoints: &[u8]) -> usize
     requires { ⌜ at + length (now endpoints) ≤ length (now out) ⌝ }
-    ensures { λ r. ⌜ FieldsPut (map byte (now (endpoints .entry))) (now (out .entry)) at r (now (out .exit)) ⌝ }
+    ensures { λ r. ⌜ (r ≡ at + length (now (endpoints .entry))) × FieldsPut (map byte (now (endpoints .entry))) (now (out .entry)) at r (now (out .exit)) ⌝ }
 {
     let mut at = at;
     let mut i: usize = 0;

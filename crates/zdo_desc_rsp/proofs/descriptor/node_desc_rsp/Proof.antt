@@ -1,4 +1,5 @@
 -- `node_desc_rsp` meets its contract: the header is put, and the descriptor in the part behind it. Assumes nothing.
+use native.Mathlib.Omega.{arith}
 use borrow.Author.Needs.{needs}
 use Rattle.zigbee_types.specs.Answers.{writtenSays}
 use Rattle.zigbee_types.specs.Layout.{size}
@@ -11,7 +12,7 @@ use Rattle.zdo_desc_rsp.proofs.descriptor.node_desc_rsp.Tie as tie
 
 full : tie.Need-returns
 unfolding writtenSays size header nodeDescriptor nodeDescRsp
-full c = search (needs, run-full)
+full c = run-full _ _ (omega arith)
 
 sum : tie.Need-add-t18
 unfolding size nodeDescriptor

@@ -9,15 +9,21 @@ use Rattle.zdo_match_rsp.proofs.descriptor.match_desc_rsp_error.Tie as 
 
 ruleset laws = (needs, run-put-none, run-put-more, run-put-told, run-writes, run-full)
 
-pub match-desc-rsp-error-spec : {M : Type 1} → statement M
+full : tie.Need-returns
 unfolding writtenSays size matchErrorFields matchDescRspError
+full c = search laws
+
+answers : tie.Need-returns-2
+unfolding writtenSays size matchErrorFields matchDescRspError
+answers c = search laws
+
+pub match-desc-rsp-error-spec : {M : Type 1} → statement M
 match-desc-rsp-error-spec =
     tie.close
-    (tie.spec
-    (λ c. search laws)  -- returns
-    (λ c κs. search laws)  -- write-u8-requires
-    (λ c κs. search laws)  -- code-requires
-    (λ c κs. search laws)  -- write-u8-requires-2
-    (λ c κs. search laws)  -- write-u8-requires-3
-    (λ c. search laws)  -- same-length
-    (λ c. search laws))  -- returns-2
+    (tie.spec full
+    (λ c κs. search needs)  -- write-u8-requires
+    (λ c κs. search needs)  -- code-requires
+    (λ c κs. search needs)  -- write-u8-requires-2
+    (λ c κs. search needs)  -- write-u8-requires-3
+    (λ c. search needs)  -- same-length
+    answers)  -- returns-2

@@ -28,4 +28,4 @@ write-endpoints-spec =
     (λ c. search laws)  -- loop-less
     (λ c. search laws)  -- loop-again
     (λ c. search laws)  -- same-length
-    (λ c. entries-all (c .before .loop .inv) (c .loop-test .left)))  -- returns
+    (λ c. (search laws, entries-all (c .before .loop .inv) (c .loop-test .left))))  -- returns
