@@ -1,5 +1,1 @@
 pub mod Entry
-pub mod Held
-pub mod Table
-pub mod Answers
-pub mod Places

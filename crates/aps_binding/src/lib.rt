@@ -1,2 +1,2 @@
-// The binding table (2.2.8.2.1).
+// An entry of the binding table (2.2.8.2.1).
 pub mod binding;

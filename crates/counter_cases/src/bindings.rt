@@ -2,11 +2,11 @@
 // or not, so that a freed place, and what is left alone, shows.
 use crate::print;
 use aps_binding::binding::Binding;
-use aps_binding::binding::BindingTable;
-use aps_binding::binding::LinkStatus;
-use aps_binding::binding::Linked;
-use aps_binding::binding::create_binding_link;
-use aps_binding::binding::remove_binding_link;
+use aps_binding_table::binding::BindingTable;
+use aps_binding_table::binding::LinkStatus;
+use aps_binding_table::binding::Linked;
+use aps_binding_table::binding::create_binding_link;
+use aps_binding_table::binding::remove_binding_link;
 use zigbee_types::GroupAddress;
 use zigbee_types::IeeeAddress;
 

@@ -10,13 +10,13 @@ use lib.ListN.{length, length-append}
 use borrow.Author.Tests.{eqb-true, eqb-false}
 use Rattle.zigbee_types.specs.Outcome.{answer, refusal, mapped}
 use Rattle.zigbee_types.specs.Statuses.{SUCCESS, NO-ENTRY, TABLE-FULL}
-use Rattle.aps_binding.specs.Held.{Step, holds, without, boundAs, bound, unboundAs, unbound}
-use Rattle.aps_binding.specs.Table.{goodTable, held, placed, onGood, createBindingLink, removeBindingLink, tableLeft}
+use Rattle.aps_binding_table.specs.Held.{Step, holds, without, boundAs, bound, unboundAs, unbound}
+use Rattle.aps_binding_table.specs.Table.{goodTable, held, placed, onGood, createBindingLink, removeBindingLink, tableLeft}
 use Rattle.aps_binding.specs.declared.binding.Binding.{Binding}
-use Rattle.aps_binding.specs.declared.binding.BindingTable.{BindingTable}
-use Rattle.aps_binding.proofs.Good.{Good, held-length, on-good}
-use Rattle.aps_binding.proofs.Placed.{placed-held, placed-places}
-use Rattle.aps_binding.proofs.Holds.{length-without}
+use Rattle.aps_binding_table.specs.declared.binding.BindingTable.{BindingTable}
+use Rattle.aps_binding_table.proofs.Good.{Good, held-length, on-good}
+use Rattle.aps_binding_table.proofs.Placed.{placed-held, placed-places}
+use Rattle.aps_binding_table.proofs.Holds.{length-without}
 use Rattle.demands.specs.Calls.{Call, bind, unbind, called, told, next}
 
 -- ---- steps on the entries in use

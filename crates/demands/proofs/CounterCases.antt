@@ -10,9 +10,9 @@ use Rattle.node_descriptor.specs.NodeDescriptor.{logicalType, nodeByte0, nodeBy
 use Rattle.node_power_descriptor.specs.PowerDescriptor.{currentPowerMode, powerSource, currentPowerSourceLevel, sourceBitmap, powerByte0, powerByte1, powerDescriptor, powerWidths, common, supports, usable, powerDescriptorIn}
 use Rattle.simple_descriptor.specs.SimpleDescriptor.{simpleHeader, simpleDescriptor, clusterCount, simpleWritten, simpleWidths, simpleOf, simpleDescriptorIn}
 use Rattle.aps_binding.specs.Entry.{zeroBinding, key, alike, same, formed}
-use Rattle.aps_binding.specs.Held.{holds, without, boundAs, bound, unboundAs, unbound}
-use Rattle.aps_binding.specs.Table.{emptyTable, goodTable, held, placed, onGood, createBindingLink, removeBindingLink, tableLeft}
-use Rattle.aps_binding.specs.Answers.{linkSays}
+use Rattle.aps_binding_table.specs.Held.{holds, without, boundAs, bound, unboundAs, unbound}
+use Rattle.aps_binding_table.specs.Table.{emptyTable, goodTable, held, placed, onGood, createBindingLink, removeBindingLink, tableLeft}
+use Rattle.aps_binding_table.specs.Answers.{linkSays}
 use Rattle.zdo_requests.specs.Requests.{nwkAddrReqIn, ieeeAddrReqIn, addrOfInterestWidths, addrOfInterestReqIn, addrOfInterestIn, simpleDescReqIn, matchReqOf, matchDescReqIn, bindReqOf, groupReqIn, deviceReqIn, bindReqIn, bindingTo, bindingOf, optionIeee, mgmtLeaveReqIn, addrOfInterestFields, nodeDescReq}
 use Rattle.zdo_replies.specs.Codes.{bindCode, discoveryCode, leaveStatus}
 use Rattle.zdo_replies.specs.Replies.{header, nodeDescRsp, powerDescRsp, descriptorRspError, listRsp, emptyRsp, matchErrorFields, matchDescRspError, describedRsp, addrHeader, addrRspSingle, addrRspExtended, addrRsp, statusFields, statusRsp}

@@ -5,10 +5,10 @@ use mathlib.Core.List.{List, [], _∷_, _++_}
 use borrow.Author.Tests.{not-true}
 use Rattle.zigbee_types.specs.Lists.{any}
 use Rattle.aps_binding.specs.Entry.{same}
-use Rattle.aps_binding.specs.Held.{holds, without}
+use Rattle.aps_binding_table.specs.Held.{holds, without}
 use Rattle.aps_binding.specs.declared.binding.Binding.{Binding}
 use Rattle.aps_binding.proofs.Same.{same-sym}
-use Rattle.aps_binding.proofs.Holds.{holds-like, not-first, holds-last, holds-other}
+use Rattle.aps_binding_table.proofs.Holds.{holds-like, not-first, holds-last, holds-other}
 use Rattle.demands.specs.Reached.{distinct}
 
 -- the first entry is not held behind it, and the rest are distinct

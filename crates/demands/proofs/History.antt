@@ -7,11 +7,11 @@ use mathlib.Core.List.{List, [], _∷_}
 use lib.ListN.{length, length-append}
 use Rattle.zigbee_types.specs.Bytes.{bit}
 use Rattle.zigbee_types.specs.Outcome.{answer}
-use Rattle.aps_binding.specs.Held.{Step}
-use Rattle.aps_binding.specs.Table.{emptyTable, goodTable, held, placed}
-use Rattle.aps_binding.specs.declared.binding.BindingTable.{BindingTable}
-use Rattle.aps_binding.proofs.Good.{Good, good-table, held-length}
-use Rattle.aps_binding.proofs.Holds.{length-without}
+use Rattle.aps_binding_table.specs.Held.{Step}
+use Rattle.aps_binding_table.specs.Table.{emptyTable, goodTable, held, placed}
+use Rattle.aps_binding_table.specs.declared.binding.BindingTable.{BindingTable}
+use Rattle.aps_binding_table.proofs.Good.{Good, good-table, held-length}
+use Rattle.aps_binding_table.proofs.Holds.{length-without}
 use Rattle.demands.specs.Calls.{Call, bind, unbind, told, next, after}
 use Rattle.demands.specs.History.{succeeded, adds, removes, howMany, History}
 use Rattle.demands.proofs.Calls.{Stepped, again, full, added, removed, absent, step-cases, told-refused, next-refused, told-step, next-placed, good-next}

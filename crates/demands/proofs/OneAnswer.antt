@@ -19,9 +19,9 @@ use Rattle.node_power_descriptor.specs.declared.NodePowerDescriptorRead.the-var
 use Rattle.simple_descriptor.specs.SimpleDescriptor.{simpleSays}
 use Rattle.simple_descriptor.specs.declared.SimpleDescriptorRead.{SimpleDescriptorRead}
 use Rattle.simple_descriptor.specs.declared.SimpleDescriptorRead.the-variants as simple
-use Rattle.aps_binding.specs.Answers.{linkSays}
-use Rattle.aps_binding.specs.declared.binding.LinkStatus.{LinkStatus}
-use Rattle.aps_binding.specs.declared.binding.LinkStatus.the-variants as link
+use Rattle.aps_binding_table.specs.Answers.{linkSays}
+use Rattle.aps_binding_table.specs.declared.binding.LinkStatus.{LinkStatus}
+use Rattle.aps_binding_table.specs.declared.binding.LinkStatus.the-variants as link
 use Rattle.demands.specs.OneAnswer.{Determines, OneAnswer}
 
 written-again : (w : Written) → from written.Length written.Refused (writtenSays w) ≡ w

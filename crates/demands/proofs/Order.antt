@@ -7,12 +7,12 @@ use mathlib.Core.List.{List, [], _∷_, _++_}
 use lib.ListN.{length, length-append}
 use Rattle.zigbee_types.specs.Outcome.{answer}
 use Rattle.aps_binding.specs.Entry.{same}
-use Rattle.aps_binding.specs.Held.{Step, holds, without}
-use Rattle.aps_binding.specs.Table.{emptyTable, held}
+use Rattle.aps_binding_table.specs.Held.{Step, holds, without}
+use Rattle.aps_binding_table.specs.Table.{emptyTable, held}
 use Rattle.aps_binding.specs.declared.binding.Binding.{Binding}
-use Rattle.aps_binding.specs.declared.binding.BindingTable.{BindingTable}
-use Rattle.aps_binding.proofs.Good.{Good, empty-good, held-length}
-use Rattle.aps_binding.proofs.Holds.{not-same, last-keeps, last-held, last-within, holds-other, length-without}
+use Rattle.aps_binding_table.specs.declared.binding.BindingTable.{BindingTable}
+use Rattle.aps_binding_table.proofs.Good.{Good, empty-good, held-length}
+use Rattle.aps_binding_table.proofs.Holds.{not-same, last-keeps, last-held, last-within, holds-other, length-without}
 use Rattle.demands.specs.Calls.{Call, next, after}
 use Rattle.demands.specs.Reached.{distinct}
 use Rattle.demands.specs.Order.{Agree, equal, room, kept, SuccessKept, Ordered, Order}

@@ -9,13 +9,13 @@ use lib.ListN.{length}
 use Rattle.zigbee_types.specs.Lists.{all}
 use Rattle.zigbee_types.proofs.Elements.{all-last}
 use Rattle.aps_binding.specs.Entry.{formed}
-use Rattle.aps_binding.specs.Held.{Step}
-use Rattle.aps_binding.specs.Table.{emptyTable, held, placed}
+use Rattle.aps_binding_table.specs.Held.{Step}
+use Rattle.aps_binding_table.specs.Table.{emptyTable, held, placed}
 use Rattle.aps_binding.specs.declared.binding.Binding.{Binding}
-use Rattle.aps_binding.specs.declared.binding.BindingTable.{BindingTable}
-use Rattle.aps_binding.proofs.Good.{Good, empty-good, good-table, good-tested, count-fits}
-use Rattle.aps_binding.proofs.Placed.{placed-zeros}
-use Rattle.aps_binding.proofs.Holds.{all-without}
+use Rattle.aps_binding_table.specs.declared.binding.BindingTable.{BindingTable}
+use Rattle.aps_binding_table.proofs.Good.{Good, empty-good, good-table, good-tested, count-fits}
+use Rattle.aps_binding_table.proofs.Placed.{placed-zeros}
+use Rattle.aps_binding_table.proofs.Holds.{all-without}
 use Rattle.demands.specs.Calls.{Call, next, after}
 use Rattle.demands.specs.Reached.{Built, group, device, BuiltCall, AllBuilt, distinct, Sound, Reached, SoundFromEmpty, ReachedFromEmpty}
 use Rattle.demands.proofs.Calls.{stepped, Stepped, again, full, added, removed, absent, step-cases, next-placed, next-held, stepped-fits, good-next}

@@ -8,12 +8,12 @@ use Rattle.zigbee_types.specs.Outcome.{Outcome, answer, refusal, mapped}
 use Rattle.zigbee_types.specs.Addresses.{ieeeOf, groupOf}
 use Rattle.zigbee_types.specs.declared.Refusal.the-variants.{BadTables}
 use Rattle.aps_binding.specs.Entry.{groupBinding, deviceBinding, zeroBinding, key, same, formed}
-use Rattle.aps_binding.specs.Held.{Step}
-use Rattle.aps_binding.specs.Table.{emptyTable, createBindingLink, removeBindingLink, tableLeft}
-use Rattle.aps_binding.specs.Answers.{linkSays}
+use Rattle.aps_binding_table.specs.Held.{Step}
+use Rattle.aps_binding_table.specs.Table.{emptyTable, createBindingLink, removeBindingLink, tableLeft}
+use Rattle.aps_binding_table.specs.Answers.{linkSays}
 use Rattle.aps_binding.specs.declared.binding.Binding.{Binding}
-use Rattle.aps_binding.specs.declared.binding.BindingTable.{BindingTable}
-use Rattle.aps_binding.specs.declared.binding.LinkStatus.the-variants as link
+use Rattle.aps_binding_table.specs.declared.binding.BindingTable.{BindingTable}
+use Rattle.aps_binding_table.specs.declared.binding.LinkStatus.the-variants as link
 use Rattle.demands.specs.Calls.{Call, bind, unbind, next, after}
 use Rattle.demands.specs.History.{adds, removes, howMany}
 use Rattle.demands.specs.Cases.{Case, counting, joined}

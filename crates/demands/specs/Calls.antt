@@ -2,10 +2,10 @@
 use Prim.Native.Nat.{ℕ}
 use mathlib.Core.List.{List, [], _∷_}
 use Rattle.zigbee_types.specs.Outcome.{Outcome, mapped}
-use Rattle.aps_binding.specs.Held.{Step}
-use Rattle.aps_binding.specs.Table.{createBindingLink, removeBindingLink, tableLeft}
+use Rattle.aps_binding_table.specs.Held.{Step}
+use Rattle.aps_binding_table.specs.Table.{createBindingLink, removeBindingLink, tableLeft}
 use Rattle.aps_binding.specs.declared.binding.Binding.{Binding}
-use Rattle.aps_binding.specs.declared.binding.BindingTable.{BindingTable}
+use Rattle.aps_binding_table.specs.declared.binding.BindingTable.{BindingTable}
 
 -- a call of `create_binding_link` or of `remove_binding_link`, with its entry
 pub data Call : Type 0 where

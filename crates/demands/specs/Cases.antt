@@ -14,8 +14,8 @@ use Rattle.node_power_descriptor.specs.declared.PowerSource.{PowerSource}
 use Rattle.node_power_descriptor.specs.declared.PowerSource.the-variants as source
 use Rattle.node_power_descriptor.specs.declared.CurrentPowerSourceLevel.{CurrentPowerSourceLevel}
 use Rattle.node_power_descriptor.specs.declared.CurrentPowerSourceLevel.the-variants as level
-use Rattle.aps_binding.specs.Table.{emptyTable}
-use Rattle.aps_binding.specs.declared.binding.BindingTable.{BindingTable}
+use Rattle.aps_binding_table.specs.Table.{emptyTable}
+use Rattle.aps_binding_table.specs.declared.binding.BindingTable.{BindingTable}
 use Rattle.zdo_requests.specs.Requests.{matchDescReqIn}
 use Rattle.zdo_device.specs.Matching.{matchingEndpoints}
 use Rattle.zdo_dispatcher.specs.Host.{Host, Asked}

@@ -7,7 +7,7 @@ use Rattle.zigbee_types.specs.Outcome.{Outcome, answer, refusal, andThen, mappe
 use Rattle.zigbee_types.specs.Layout.{laid}
 use Rattle.node_descriptor.specs.NodeDescriptor.{defaultNode, nodeDescriptor}
 use Rattle.node_power_descriptor.specs.PowerDescriptor.{powerDescriptor, powerDescriptorIn, powerFields}
-use Rattle.aps_binding.specs.Table.{emptyTable}
+use Rattle.aps_binding_table.specs.Table.{emptyTable}
 use Rattle.zdo_replies.specs.Replies.{nodeDescRsp}
 use Rattle.zdo_readers.specs.Readers.{nodeDescRspIn, stackRevisionOf}
 use Rattle.zdo_readers.specs.declared.descriptor.OptionStackRevision.{OptionStackRevision}

@@ -9,7 +9,7 @@ use Rattle.zigbee_types.specs.Addresses.{shortOf}
 use Rattle.node_descriptor.specs.declared.LogicalType.{LogicalType}
 use Rattle.node_descriptor.specs.declared.LogicalType.the-variants as type
 use Rattle.aps_binding.specs.Entry.{key}
-use Rattle.aps_binding.specs.Table.{emptyTable}
+use Rattle.aps_binding_table.specs.Table.{emptyTable}
 use Rattle.zdo_requests.specs.Requests.{addrOfInterestIn, mgmtLeaveReqIn, nodeDescReq}
 use Rattle.zdo_requests.specs.declared.descriptor.MgmtLeaveReq.{MgmtLeaveReq}
 use Rattle.zdo_requests.specs.declared.descriptor.OptionIeeeAddress.{OptionIeeeAddress}

@@ -9,9 +9,9 @@ use lib.Dec.{eqb}
 use Rattle.zigbee_types.specs.Bytes.{bit}
 use Rattle.zigbee_types.specs.Outcome.{Outcome, answer, refusal}
 use Rattle.zigbee_types.specs.Statuses.{SUCCESS}
-use Rattle.aps_binding.specs.Held.{holds}
-use Rattle.aps_binding.specs.Table.{emptyTable, held}
-use Rattle.aps_binding.specs.declared.binding.BindingTable.{BindingTable}
+use Rattle.aps_binding_table.specs.Held.{holds}
+use Rattle.aps_binding_table.specs.Table.{emptyTable, held}
+use Rattle.aps_binding_table.specs.declared.binding.BindingTable.{BindingTable}
 use Rattle.demands.specs.Calls.{Call, bind, unbind, told, next, after}
 
 -- is the status SUCCESS?

@@ -9,11 +9,11 @@ use Rattle.zigbee_types.specs.declared.Written.{Written}
 use Rattle.node_descriptor.specs.NodeDescriptor.{nodeSays}
 use Rattle.node_power_descriptor.specs.PowerDescriptor.{powerSays}
 use Rattle.simple_descriptor.specs.SimpleDescriptor.{simpleSays}
-use Rattle.aps_binding.specs.Answers.{linkSays}
-use Rattle.aps_binding.specs.Held.{Step}
-use Rattle.aps_binding.specs.Table.{Leaves}
-use Rattle.aps_binding.specs.declared.binding.BindingTable.{BindingTable}
-use Rattle.aps_binding.specs.declared.binding.Linked.{Linked}
+use Rattle.aps_binding_table.specs.Answers.{linkSays}
+use Rattle.aps_binding_table.specs.Held.{Step}
+use Rattle.aps_binding_table.specs.Table.{Leaves}
+use Rattle.aps_binding_table.specs.declared.binding.BindingTable.{BindingTable}
+use Rattle.aps_binding_table.specs.declared.binding.Linked.{Linked}
 
 -- what an answer says determines it
 abbrev pub Determines : {A B : Type 0} → (A → B) → Type 0

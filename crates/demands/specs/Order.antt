@@ -5,10 +5,10 @@ use mathlib.Core.Bool.{true}
 use mathlib.Core.List.{List}
 use Rattle.zigbee_types.specs.Outcome.{Outcome, answer}
 use Rattle.zigbee_types.specs.Statuses.{SUCCESS, NO-ENTRY, TABLE-FULL}
-use Rattle.aps_binding.specs.Held.{holds}
-use Rattle.aps_binding.specs.Table.{emptyTable, held}
+use Rattle.aps_binding_table.specs.Held.{holds}
+use Rattle.aps_binding_table.specs.Table.{emptyTable, held}
 use Rattle.aps_binding.specs.declared.binding.Binding.{Binding}
-use Rattle.aps_binding.specs.declared.binding.BindingTable.{BindingTable}
+use Rattle.aps_binding_table.specs.declared.binding.BindingTable.{BindingTable}
 use Rattle.demands.specs.Calls.{Call, told, after}
 
 -- what is told in a first run and in a second: the same, but that TABLE_FULL or NO_ENTRY in the first may be SUCCESS in the second

@@ -9,10 +9,10 @@ use Rattle.zigbee_types.specs.Lists.{all}
 use Rattle.zigbee_types.specs.declared.GroupAddress.{GroupAddress}
 use Rattle.zigbee_types.specs.declared.IeeeAddress.{IeeeAddress}
 use Rattle.aps_binding.specs.Entry.{groupBinding, deviceBinding, zeroBinding, formed}
-use Rattle.aps_binding.specs.Held.{holds}
-use Rattle.aps_binding.specs.Table.{emptyTable, goodTable, held}
+use Rattle.aps_binding_table.specs.Held.{holds}
+use Rattle.aps_binding_table.specs.Table.{emptyTable, goodTable, held}
 use Rattle.aps_binding.specs.declared.binding.Binding.{Binding}
-use Rattle.aps_binding.specs.declared.binding.BindingTable.{BindingTable}
+use Rattle.aps_binding_table.specs.declared.binding.BindingTable.{BindingTable}
 use Rattle.demands.specs.Calls.{Call, bind, unbind, after}
 
 -- ---- the sequences

@@ -4,11 +4,11 @@
 use crate::bindings;
 use crate::out;
 use crate::words;
-use aps_binding::binding::BindingTable;
-use aps_binding::binding::LinkStatus;
-use aps_binding::binding::Linked;
-use aps_binding::binding::create_binding_link;
-use aps_binding::binding::remove_binding_link;
+use aps_binding_table::binding::BindingTable;
+use aps_binding_table::binding::LinkStatus;
+use aps_binding_table::binding::Linked;
+use aps_binding_table::binding::create_binding_link;
+use aps_binding_table::binding::remove_binding_link;
 ghost use Prim.Native.Nat.{_≤_};
 
 // Puts the answer to the question about a sequence. The place stays where the line is none.

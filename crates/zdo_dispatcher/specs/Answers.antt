@@ -8,10 +8,10 @@ use lib.ListN.{length}
 use Rattle.zigbee_types.specs.Outcome.{Outcome, answer, refusal, andThen, mapped, fitted, written}
 use Rattle.zigbee_types.specs.Addresses.{sameIeee}
 use Rattle.zigbee_types.specs.Statuses.{INVALID-EP, NOT-SUPPORTED}
-use Rattle.aps_binding.specs.Held.{Step, bound, unbound}
-use Rattle.aps_binding.specs.Table.{goodTable, held, placed}
+use Rattle.aps_binding_table.specs.Held.{Step, bound, unbound}
+use Rattle.aps_binding_table.specs.Table.{goodTable, held, placed}
 use Rattle.aps_binding.specs.declared.binding.Binding.{Binding}
-use Rattle.aps_binding.specs.declared.binding.BindingTable.{BindingTable}
+use Rattle.aps_binding_table.specs.declared.binding.BindingTable.{BindingTable}
 use Rattle.zdo_requests.specs.Clusters.{BIND-REQ, UNBIND-REQ, MGMT-LEAVE-REQ, replyCluster}
 use Rattle.zdo_requests.specs.Requests.{bindReqIn, bindingOf, mgmtLeaveReqIn}
 use Rattle.zdo_requests.specs.declared.descriptor.BindReq.{BindReq}

@@ -4,7 +4,7 @@ use Prim.Native.Nat.{ℕ}
 use mathlib.Core.Path.{_≡_}
 use mathlib.Core.List.{List}
 use Rattle.zigbee_types.specs.Outcome.{Outcome}
-use Rattle.aps_binding.specs.declared.binding.BindingTable.{BindingTable}
+use Rattle.aps_binding_table.specs.declared.binding.BindingTable.{BindingTable}
 use Rattle.zdo_dispatcher.specs.Answers.{Answer, Told, Dispatched}
 
 -- a request dispatched: what is told, the table and the buffer

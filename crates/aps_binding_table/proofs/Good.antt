@@ -8,9 +8,9 @@ use lib.ListN.{length}
 use lib.Seq.{length-take-le}
 use borrow.Author.Tests.{leb-true, le-leb}
 use Rattle.zigbee_types.specs.Outcome.{answer}
-use Rattle.aps_binding.specs.Held.{Step}
-use Rattle.aps_binding.specs.Table.{emptyTable, goodTable, held, onGood}
-use Rattle.aps_binding.specs.declared.binding.BindingTable.{BindingTable}
+use Rattle.aps_binding_table.specs.Held.{Step}
+use Rattle.aps_binding_table.specs.Table.{emptyTable, goodTable, held, onGood}
+use Rattle.aps_binding_table.specs.declared.binding.BindingTable.{BindingTable}
 
 pub record Good (t : BindingTable) : Type 0 where
   pub within : t .count ≤ t .limit

@@ -6,10 +6,10 @@ use mathlib.Core.List.{List, append-assoc}
 use lib.ListN.{length, drop, replicate, length-append, length-drop, length-replicate, replicate-append-replicate}
 use lib.Seq.{take-append-seam, drop-append-seam, drop-drop}
 use Rattle.zigbee_types.proofs.Elements.{drop-replicate}
 use Rattle.aps_binding.specs.Entry.{zeroBinding}
-use Rattle.aps_binding.specs.Table.{held, placed}
+use Rattle.aps_binding_table.specs.Table.{held, placed}
 use Rattle.aps_binding.specs.declared.binding.Binding.{Binding}
-use Rattle.aps_binding.specs.declared.binding.BindingTable.{BindingTable}
+use Rattle.aps_binding_table.specs.declared.binding.BindingTable.{BindingTable}
 
 module _ (t : BindingTable) (xs : List Binding) where
   pub placed-held : held (placed t xs) ≡ xs

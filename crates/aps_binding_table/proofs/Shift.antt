@@ -8,11 +8,11 @@ use native.Mathlib.Omega.{arith}
 use lib.ListN.{length, getD, set, take, drop, length-append, length-drop}
 use lib.Seq.{paste, paste-zero, paste-suc, drop-paste, length-paste-head, getD-drop, length-take-le, take-take, take-add, drop-at, drop-cons, set-at, append-snoc}
 use Rattle.zigbee_types.specs.Addresses.{groupOf}
 use Rattle.aps_binding.specs.Entry.{groupBinding, zeroBinding}
-use Rattle.aps_binding.specs.Table.{held, placed}
+use Rattle.aps_binding_table.specs.Table.{held, placed}
 use Rattle.aps_binding.specs.declared.binding.Binding.{Binding}
-use Rattle.aps_binding.specs.declared.binding.BindingTable.{BindingTable}
-use Rattle.aps_binding.proofs.Places.{freed-zeros}
+use Rattle.aps_binding_table.specs.declared.binding.BindingTable.{BindingTable}
+use Rattle.aps_binding_table.proofs.Places.{freed-zeros}
 
 -- ---- any list
 

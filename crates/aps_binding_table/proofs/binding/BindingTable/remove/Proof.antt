@@ -3,9 +3,9 @@
 use Prim.Native.Nat.{_-_}
 use borrow.Author.Needs.{needs}
 use Rattle.zigbee_types.proofs.Elements.{length-mapped}
-use Rattle.aps_binding.proofs.Shift.{Shifted, shifted-first, shifted-next, shifted-end}
-use Rattle.aps_binding.proofs.binding.BindingTable.remove.Statement.{statement}
-use Rattle.aps_binding.proofs.binding.BindingTable.remove.Tie as tie
+use Rattle.aps_binding_table.proofs.Shift.{Shifted, shifted-first, shifted-next, shifted-end}
+use Rattle.aps_binding_table.proofs.binding.BindingTable.remove.Statement.{statement}
+use Rattle.aps_binding_table.proofs.binding.BindingTable.remove.Tie as tie
 
 abbrev Inv-loop : tie.InvT-loop
 Inv-loop index self₀ last i₀ self i = Shifted self₀ index i self

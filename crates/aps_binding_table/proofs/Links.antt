@@ -8,16 +8,16 @@ use lib.ListN.{length}
 use borrow.Author.Tests.{not-true, not-false, lt-ltb, le-ltb, eq-eqb, ne-eqb}
 use Rattle.zigbee_types.specs.Outcome.{Outcome, answer, mapped}
 use Rattle.zigbee_types.specs.declared.Refusal.the-variants.{BadTables}
-use Rattle.aps_binding.specs.Held.{Step, holds, position, bound, boundAs, unbound, unboundAs}
-use Rattle.aps_binding.specs.Table.{goodSizes, goodTable, held, placed, onGood, createBindingLink, removeBindingLink, tableLeft, Leaves}
-use Rattle.aps_binding.specs.Answers.{linkSays}
+use Rattle.aps_binding_table.specs.Held.{Step, holds, position, bound, boundAs, unbound, unboundAs}
+use Rattle.aps_binding_table.specs.Table.{goodSizes, goodTable, held, placed, onGood, createBindingLink, removeBindingLink, tableLeft, Leaves}
+use Rattle.aps_binding_table.specs.Answers.{linkSays}
 use Rattle.aps_binding.specs.declared.binding.Binding.{Binding}
-use Rattle.aps_binding.specs.declared.binding.BindingTable.{BindingTable}
-use Rattle.aps_binding.specs.declared.binding.LinkStatus.the-variants.{Success, InvalidBinding, TableFull, Refused}
-use Rattle.aps_binding.proofs.Good.{Good, good-table, count-inside, held-length, on-good}
-use Rattle.aps_binding.proofs.Places.{held-stays}
-use Rattle.aps_binding.proofs.Shift.{cut}
-use Rattle.aps_binding.proofs.Search.{position-le, holds-position, without-position}
+use Rattle.aps_binding_table.specs.declared.binding.BindingTable.{BindingTable}
+use Rattle.aps_binding_table.specs.declared.binding.LinkStatus.the-variants.{Success, InvalidBinding, TableFull, Refused}
+use Rattle.aps_binding_table.proofs.Good.{Good, good-table, count-inside, held-length, on-good}
+use Rattle.aps_binding_table.proofs.Places.{held-stays}
+use Rattle.aps_binding_table.proofs.Shift.{cut}
+use Rattle.aps_binding_table.proofs.Search.{position-le, holds-position, without-position}
 
 -- ---- refusal 1
 

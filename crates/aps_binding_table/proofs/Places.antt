@@ -6,8 +6,8 @@ use mathlib.Core.Path.{_≡_}
 use mathlib.Core.List.{[], _∷_, _++_, append-nil}
 use lib.ListN.{length, take, length-append, take-append-drop}
 use lib.Seq.{length-take-le, set-split, append-snoc}
-use Rattle.aps_binding.specs.Table.{held, placed}
-use Rattle.aps_binding.specs.Places.{HeldStays, AddedStands, FreedZeros}
+use Rattle.aps_binding_table.specs.Table.{held, placed}
+use Rattle.aps_binding_table.specs.Places.{HeldStays, AddedStands, FreedZeros}
 
 pub held-stays : HeldStays
 unfolding held placed

@@ -12,12 +12,12 @@ use lib.ListN.{length, getD, take, drop, drop-of-length-le}
 use lib.Seq.{drop-cons, getD-take, length-take-le}
 use borrow.Author.Tests.{lt-ltb}
 use Rattle.zigbee_types.specs.Lists.{any}
 use Rattle.aps_binding.specs.Entry.{same}
-use Rattle.aps_binding.specs.Held.{holds, position, without}
-use Rattle.aps_binding.specs.Table.{held}
+use Rattle.aps_binding_table.specs.Held.{holds, position, without}
+use Rattle.aps_binding_table.specs.Table.{held}
 use Rattle.aps_binding.specs.declared.binding.Binding.{Binding}
-use Rattle.aps_binding.specs.declared.binding.BindingTable.{BindingTable}
-use Rattle.aps_binding.proofs.Shift.{cut}
+use Rattle.aps_binding_table.specs.declared.binding.BindingTable.{BindingTable}
+use Rattle.aps_binding_table.proofs.Shift.{cut}
 
 -- ---- the loop
 

@@ -7,10 +7,10 @@ use mathlib.Core.List.{List, [], _∷_, _++_}
 use lib.ListN.{length}
 use Rattle.zigbee_types.specs.Lists.{any, all}
 use Rattle.zigbee_types.proofs.Elements.{any-last}
 use Rattle.aps_binding.specs.Entry.{same}
-use Rattle.aps_binding.specs.Held.{holds, without}
+use Rattle.aps_binding_table.specs.Held.{holds, without}
 use Rattle.aps_binding.specs.declared.binding.Binding.{Binding}
 use Rattle.aps_binding.proofs.Same.{same-refl, same-sym, same-like}
 
 -- an entry is held where a same one is
 pub holds-like : (b c : Binding) (xs : List Binding) → same b c ≡ true → holds b xs ≡ holds c xs

@@ -3,9 +3,9 @@
 use Prim.Native.Nat.{_-_}
 use borrow.Author.Needs.{needs}
 use Rattle.zigbee_types.proofs.Elements.{length-mapped}
-use Rattle.aps_binding.proofs.Search.{Passed, passed-first, passed-here, passed-next, passed-end}
-use Rattle.aps_binding.proofs.binding.BindingTable.position.Statement.{statement}
-use Rattle.aps_binding.proofs.binding.BindingTable.position.Tie as tie
+use Rattle.aps_binding_table.proofs.Search.{Passed, passed-first, passed-here, passed-next, passed-end}
+use Rattle.aps_binding_table.proofs.binding.BindingTable.position.Statement.{statement}
+use Rattle.aps_binding_table.proofs.binding.BindingTable.position.Tie as tie
 
 abbrev Inv-loop : tie.InvT-loop
 Inv-loop binding self i₀ i = Passed binding self i

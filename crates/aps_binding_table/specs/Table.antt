@@ -6,10 +6,10 @@ use mathlib.Core.List.{List, _++_}
 use lib.Dec.{leb}
 use lib.ListN.{length, take, drop, replicate}
 use Rattle.zigbee_types.specs.Outcome.{Outcome, answer, refusal, mapped}
 use Rattle.aps_binding.specs.Entry.{zeroBinding}
-use Rattle.aps_binding.specs.Held.{Step, bound, unbound}
+use Rattle.aps_binding_table.specs.Held.{Step, bound, unbound}
 use Rattle.aps_binding.specs.declared.binding.Binding.{Binding}
-use Rattle.aps_binding.specs.declared.binding.BindingTable.{BindingTable}
+use Rattle.aps_binding_table.specs.declared.binding.BindingTable.{BindingTable}
 
 -- a table that holds nothing yet
 unfoldable pub emptyTable : ℕ → BindingTable

@@ -1,10 +1,10 @@
 -- `create_binding_link` meets its contract, at each of its ways out. Assumes nothing.
 use borrow.Author.Needs.{needs}
 use Rattle.zigbee_types.proofs.Elements.{length-mapped}
-use Rattle.aps_binding.proofs.Good.{count-fits}
-use Rattle.aps_binding.proofs.Links.{tested-good, create-refused, create-held, create-full, create-room, create-added}
-use Rattle.aps_binding.proofs.binding.create_binding_link.Statement.{statement}
-use Rattle.aps_binding.proofs.binding.create_binding_link.Tie as tie
+use Rattle.aps_binding_table.proofs.Good.{count-fits}
+use Rattle.aps_binding_table.proofs.Links.{tested-good, create-refused, create-held, create-full, create-room, create-added}
+use Rattle.aps_binding_table.proofs.binding.create_binding_link.Statement.{statement}
+use Rattle.aps_binding_table.proofs.binding.create_binding_link.Tie as tie
 
 ruleset laws = (needs, length-mapped, count-fits, tested-good, create-refused, create-held, create-full, create-room, create-added)
 

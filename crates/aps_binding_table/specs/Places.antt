@@ -4,10 +4,10 @@ use Prim.Native.Nat.{_+_, _-_, _≤_, _<_}
 use mathlib.Core.Path.{_≡_}
 use mathlib.Core.List.{List, [], _∷_, _++_}
 use lib.ListN.{length, set, drop}
 use Rattle.aps_binding.specs.Entry.{zeroBinding}
-use Rattle.aps_binding.specs.Table.{held, placed}
+use Rattle.aps_binding_table.specs.Table.{held, placed}
 use Rattle.aps_binding.specs.declared.binding.Binding.{Binding}
-use Rattle.aps_binding.specs.declared.binding.BindingTable.{BindingTable}
+use Rattle.aps_binding_table.specs.declared.binding.BindingTable.{BindingTable}
 
 -- the entries that a table holds, placed into it, leave it as it was
 abbrev pub HeldStays : Type 0

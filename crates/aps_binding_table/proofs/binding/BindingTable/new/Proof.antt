@@ -1,9 +1,9 @@
 -- `BindingTable::new` meets its contract: its places are those of the empty table. Assumes nothing.
 use borrow.Author.Needs.{needs}
 use Rattle.aps_binding.specs.Entry.{zeroBinding}
-use Rattle.aps_binding.specs.Table.{emptyTable}
-use Rattle.aps_binding.proofs.binding.BindingTable.new.Statement.{statement}
-use Rattle.aps_binding.proofs.binding.BindingTable.new.Tie as tie
+use Rattle.aps_binding_table.specs.Table.{emptyTable}
+use Rattle.aps_binding_table.proofs.binding.BindingTable.new.Statement.{statement}
+use Rattle.aps_binding_table.proofs.binding.BindingTable.new.Tie as tie
 
 returns : tie.Need-returns
 unfolding emptyTable zeroBinding

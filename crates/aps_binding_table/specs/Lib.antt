@@ -1,0 +1,4 @@
+pub mod Held
+pub mod Table
+pub mod Answers
+pub mod Places

@@ -1,0 +1,2 @@
+// The binding table: bind and unbind (2.2.8.2; 004).
+pub mod binding;
