@@ -1,16 +1,15 @@
 -- Replies with a header, and what stands behind it. Assumes nothing.
-use Prim.Native.Nat.{ℕ, _+_, _-_, _^_, _≤_}
+use Prim.Native.Nat.{ℕ, _+_, _-_, _^_, _≤_, _<_}
 use native.Mathlib.Omega.{arith}
 use mathlib.Core.Path.{_≡_}
 use mathlib.Core.List.{List, _++_}
-use lib.Dec.{T, ltb}
+use lib.Dec.{T, ltb, ltb→lt}
 use lib.ListN.{length}
 use lib.Seq.{length-sets}
-use mir.Facts.{fits-lit}
 use mir.Syntax.{w64}
 use mir.Val.{Fits}
 use borrow.Rule.Slice.PartMut.{midOf, putMid}
-use Rattle.zigbee_types.specs.Outcome.{Outcome, answer, Wrote}
+use Rattle.zigbee_types.specs.Outcome.{Outcome, answer, mapped, Wrote}
 use Rattle.zigbee_types.specs.Answers.{writtenSays}
 use Rattle.zigbee_types.specs.Bytes.{le, FieldPut}
 use Rattle.zigbee_types.specs.Layout.{Field, laid, size, FieldsPut}
@@ -21,7 +20,6 @@ use Rattle.zigbee_types.specs.declared.ShortAddress.{ShortAddress}
 use Rattle.zigbee_types.specs.declared.Written.{Written}
 use Rattle.zigbee_types.specs.declared.Written.the-variants.{Length, Refused}
 use Rattle.zigbee_types.proofs.Layouts.{laid-counted}
-use Rattle.zigbee_types.proofs.Outcomes.{refused}
 use Rattle.zigbee_types.proofs.Parts.{part-told, part-put}
 use Rattle.zigbee_types.proofs.Runs.{run-put-last, run-put-both, run-writes}
 use Rattle.zdo_replies.specs.Replies.{header, descriptorRspError, emptyRsp}
@@ -45,6 +43,24 @@ module _ (seq status : ℕ) (a : ShortAddress) {s t : List ℕ} {m : ℕ} (p : F
   unfolding emptyRsp writtenSays header size
   empty-writes q h = run-writes (run-put-last p q) h
 
+-- where the writer of the later part told a length, the sum is one that the machine has
+pub behind-fits :
+    (m : ℕ) (r : Written) {n : ℕ} → (k : ℕ) × (writtenSays r ≡ answer k) × (m + k < 2 ^ 64) → r ≡ Length n → Fits w64 (m + n)
+unfolding writtenSays
+behind-fits m r {n} (k, said, small) e =
+    let same : n ≡ k = let s = rw e at said in cc in
+    record { fits = rw same small }
+
+-- it is told, and a refusal stays
+module _ (m : ℕ) (r : Written) where
+  pub behind-length : {n : ℕ} → r ≡ Length n → writtenSays (Length (m + n)) ≡ mapped (λ n. m + n) (writtenSays r)
+  unfolding writtenSays mapped
+  behind-length e = rw e
+
+  pub behind-refused : {why : Refusal} → r ≡ Refused why → writtenSays (Refused why) ≡ mapped (λ n. m + n) (writtenSays r)
+  unfolding writtenSays mapped
+  behind-refused e = rw e
+
 -- a descriptor, by a writer that was lent what is behind the header
 module _
     (seq : ℕ)
@@ -53,9 +69,9 @@ module _
     {s t v : List ℕ}
     {m : ℕ}
     (r : Written)
-    (room : 4 + size (widths fs) ≤ length s)
     (p : FieldsPut (header seq SUCCESS a) s 0 m t)
-    (w : Wrote (answer (laid fs)) (midOf m (length t - m) t) (writtenSays r) v) where
+    (w : Wrote (answer (laid fs)) (midOf m (length t - m) t) (writtenSays r) v)
+    (room : 4 + size (widths fs) ≤ length s) where
   fits : m + length (laid fs) ≤ length t
   fits =
       let same : length t ≡ length s = rw (p .left) (length-sets s 0 (laid (header seq SUCCESS a))) in
@@ -64,22 +80,18 @@ module _
   told : writtenSays r ≡ answer (length (laid fs))
   told = part-told m t (laid fs) fits w
 
-  -- there is room for it, so nothing is said of a refusal
-  pub described-refused :
-      {why : Refusal} {o : Outcome (List ℕ)} {u : List ℕ} → r ≡ Refused why → Wrote o s (writtenSays (Refused why)) u
-  unfolding writtenSays
-  described-refused e = absurd (refused (rw e at told))
+  -- the writer answers, and the reply's length is a number that the machine has
+  pub described-told : T (ltb (4 + size (widths fs)) (2 ^ 64)) → (n : ℕ) × (writtenSays r ≡ answer n) × (m + n < 2 ^ 64)
+  described-told h =
+      let sum : m + length (laid fs) ≡ 4 + size (widths fs) = omega (arith, header-place seq SUCCESS a p, laid-counted fs) in
+      (length (laid fs), told, rw sum (ltb→lt _ _ h))
 
-  -- the reply's length is a number that the machine has
-  pub described-fits : {n : ℕ} → T (ltb (4 + size (widths fs)) (2 ^ 64)) → r ≡ Length n → Fits w64 (m + n)
-  unfolding writtenSays
-  described-fits {n} h e =
-      let said = rw e at told in
-      let long : n ≡ length (laid fs) = cc in
-      let sum : m + n ≡ 4 + size (widths fs) = omega (arith, header-place seq SUCCESS a p, laid-counted fs) in
-      rw sum (fits-lit h)
-
+  -- and the reply is the header and the descriptor
   pub described-writes :
-      {n : ℕ} → r ≡ Length n → Wrote (answer (laid (header seq SUCCESS a ++ fs))) s (writtenSays (Length (m + n))) (putMid m (length t - m) t v)
-  unfolding writtenSays header size
-  described-writes e = run-writes (run-put-both p (part-put m t fs fits (rw e at w))) (omega (arith, room))
+      {q : Outcome ℕ}
+      → q ≡ mapped (λ n. m + n) (writtenSays r)
+      → Wrote (answer (laid (header seq SUCCESS a ++ fs))) s q (putMid m (length t - m) t v)
+  unfolding header size mapped
+  described-writes {q} e =
+      let long : q ≡ answer (m + length (laid fs)) = rw told at e in
+      rw long (run-writes (run-put-both p (part-put m t fs fits (rw told at w))) (omega (arith, room)))

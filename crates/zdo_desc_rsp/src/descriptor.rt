@@ -7,9 +7,10 @@ use zdo_replies::descriptor::DiscoveryError;
 use zigbee_types::Refusal;
 use zigbee_types::ShortAddress;
 use zigbee_types::Written;
-ghost use Prim.Native.Nat.{_≤_};
+ghost use mathlib.Core.Path.{_≡_};
+ghost use Prim.Native.Nat.{ℕ, _+_, _^_, _<_, _≤_};
 ghost use lib.ListN.{length};
-ghost use Rattle.zigbee_types.specs.Outcome.{Wrote};
+ghost use Rattle.zigbee_types.specs.Outcome.{answer, mapped, Wrote};
 ghost use Rattle.zigbee_types.specs.Answers.{writtenSays};
 ghost use Rattle.zigbee_types.specs.Layout.{FieldsPut};
 ghost use Rattle.zdo_replies.specs.Codes.{discoveryCode};
@@ -30,6 +31,17 @@ pub fn write_header(out: &mut [u8], seq: u8, status: u8, nwk_addr: ShortAddress)
     write_u16(out, at, nwk_addr.0)
 }
 
+// What a reply comes to whose later part, from a place on, came to `written`.
+fn behind(at: usize, written: Written) -> Written
+    requires { ⌜ ((n : ℕ) × (writtenSays written ≡ answer n) × (at + n < 2 ^ 64)) ⌝ }
+    ensures { λ r. ⌜ writtenSays r ≡ mapped (λ n. at + n) (writtenSays written) ⌝ }
+{
+    match written {
+        Written::Length(n) => Written::Length(at + n),
+        Written::Refused(why) => Written::Refused(why),
+    }
+}
+
 // Builds a Node_Desc_rsp (2.4.4.2.3): seq, status, NWKAddrOfInterest, node descriptor. Too short a buffer is refused, here as in
 // every writer below, and nothing is written.
 pub fn node_desc_rsp(
@@ -45,10 +57,7 @@ pub fn node_desc_rsp(
     }
     let at = write_header(out, seq, STATUS_SUCCESS, nwk_addr);
     let written = node.write(&mut out[at..]);
-    match written {
-        Written::Length(n) => Written::Length(at + n),
-        Written::Refused(why) => Written::Refused(why),
-    }
+    behind(at, written)
 }
 
 // Builds a Power_Desc_rsp (2.4.4.2.4): seq, status, NWKAddrOfInterest, power descriptor.
@@ -65,10 +74,7 @@ pub fn power_desc_rsp(
     }
     let at = write_header(out, seq, STATUS_SUCCESS, nwk_addr);
     let written = power.write(&mut out[at..]);
-    match written {
-        Written::Length(n) => Written::Length(at + n),
-        Written::Refused(why) => Written::Refused(why),
-    }
+    behind(at, written)
 }
 
 // Builds a Node_Desc_rsp or Power_Desc_rsp reporting an error (2.4.4.2.3, 2.4.4.2.4): seq, status, NWKAddrOfInterest; the

@@ -8,13 +8,14 @@ use std::path::Path;
 use super::Part;
 
 /// The crates whose definitions the equations cite.
-const CITED: [&str; 10] = [
+const CITED: [&str; 11] = [
     "zigbee_types",
     "node_flags",
     "node_descriptor",
     "node_power_descriptor",
     "simple_descriptor",
     "aps_binding",
+    "aps_binding_table",
     "zdo_requests",
     "zdo_replies",
     "zdo_readers",

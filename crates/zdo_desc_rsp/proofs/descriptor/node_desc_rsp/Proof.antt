@@ -6,7 +6,7 @@ use Rattle.zigbee_types.specs.Layout.{size}
 use Rattle.zigbee_types.proofs.Runs.{run-full}
 use Rattle.node_descriptor.specs.NodeDescriptor.{nodeDescriptor}
 use Rattle.zdo_replies.specs.Replies.{header, nodeDescRsp}
-use Rattle.zdo_desc_rsp.proofs.Written.{header-place, described-refused, described-fits, described-writes}
+use Rattle.zdo_desc_rsp.proofs.Written.{header-place, described-told, described-writes}
 use Rattle.zdo_desc_rsp.proofs.descriptor.node_desc_rsp.Statement.{statement}
 use Rattle.zdo_desc_rsp.proofs.descriptor.node_desc_rsp.Tie as tie
 
@@ -14,26 +14,16 @@ full : tie.Need-returns
 unfolding writtenSays size header nodeDescriptor nodeDescRsp
 full c = run-full _ _ (omega arith)
 
-sum : tie.Need-add-t18
+sum : tie.Need-behind-requires
 unfolding size nodeDescriptor
-sum c =
-    let lent = c .before .before .before .before .before in
+sum c κs =
+    let lent = c .before .before in
     let front = lent .before .before .before .before in
-    described-fits _ _ _ _ (front .before .before .if1 .left) (front .write-header .ensures) (lent .write .ensures) tt (search needs)
+    described-told _ _ _ _ (front .write-header .ensures) (lent .write .ensures) (front .before .before .if1 .left) tt
 
 answers : tie.Need-returns-2
 unfolding size nodeDescriptor nodeDescRsp
-answers c =
-    let lent = c .before .before .before .before .before in
-    let front = lent .before .before .before .before in
-    described-writes _ _ _ _ (front .before .before .if1 .left) (front .write-header .ensures) (lent .write .ensures) (search needs)
-
-refused : tie.Need-returns-3
-unfolding size nodeDescriptor nodeDescRsp
-refused c =
-    let lent = c .before .before .before .before .before in
-    let front = lent .before .before .before .before in
-    described-refused _ _ _ _ (front .before .before .if1 .left) (front .write-header .ensures) (lent .write .ensures) (search needs)
+answers c = search (needs, described-writes)
 
 pub node-desc-rsp-spec : {M : Type 1} → statement M
 node-desc-rsp-spec =
@@ -44,10 +34,6 @@ node-desc-rsp-spec =
     (λ c. let at = header-place _ _ _ (c .before .before .write-header .ensures) in search needs)  -- part-write-start
     (λ c. search needs)  -- part-write-end
     (λ c κs. search needs)  -- write-requires
-    (λ c. search needs)  -- enum-known-written
-    sum  -- add-t18
-    (λ c. search needs)  -- enum-known-written-2
+    sum  -- behind-requires
     (λ c. search needs)  -- same-length
-    answers  -- returns-2
-    (λ c. search needs)  -- same-length-2
-    refused)  -- returns-3
+    answers)  -- returns-2
