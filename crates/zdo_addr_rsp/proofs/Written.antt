@@ -7,8 +7,8 @@ use lib.ListN.{length}
 use borrow.Author.Tests.{not-true, not-false}
 use Rattle.zigbee_types.specs.Outcome.{Outcome, Wrote}
 use Rattle.zigbee_types.specs.Answers.{writtenSays}
-use Rattle.zigbee_types.specs.Bytes.{le, FieldPut}
-use Rattle.zigbee_types.specs.Layout.{laid, size, FieldsPut}
+use Rattle.zigbee_types.specs.Bytes.{FieldPut}
+use Rattle.zigbee_types.specs.Layout.{size, FieldsPut}
 use Rattle.zigbee_types.specs.Statuses.{SUCCESS}
 use Rattle.zigbee_types.specs.declared.IeeeAddress.{IeeeAddress}
 use Rattle.zigbee_types.specs.declared.Refusal.the-variants.{ShortBuffer}
@@ -17,24 +17,14 @@ use Rattle.zigbee_types.specs.declared.Written.the-variants.{Length, Refused}
 use Rattle.zigbee_types.proofs.Runs.{run-put-one, run-put-more, run-put-both, run-writes, run-full}
 use Rattle.zdo_replies.specs.Replies.{addrHeader, addrRspSingle, addrRspExtended, addrRsp}
 
--- ---- addresses
-
-module _
-    (seq status : ℕ)
-    (l : IeeeAddress)
-    (a : ShortAddress)
-    {s t : List ℕ}
-    {m : ℕ}
-    (p : FieldsPut (addrHeader seq status l a) s 0 m t) where
-  -- they have twelve bytes
-  pub addr-place : m ≡ 12
-  unfolding addrHeader laid le
-  addr-place = p .moved
-
-  -- nothing behind them
-  pub single-writes : 12 ≤ length s → Wrote (addrRspSingle seq status l a) s (writtenSays (Length m)) t
-  unfolding addrRspSingle writtenSays addrHeader size
-  single-writes h = run-writes p h
+-- nothing behind them
+pub single-writes :
+    (seq status : ℕ) (l : IeeeAddress) (a : ShortAddress) {s t : List ℕ} {m : ℕ}
+    → FieldsPut (addrHeader seq status l a) s 0 m t
+    → 12 ≤ length s
+    → Wrote (addrRspSingle seq status l a) s (writtenSays (Length m)) t
+unfolding addrRspSingle writtenSays addrHeader size
+single-writes seq status l a p h = run-writes p h
 
 module _ (seq : ℕ) (l : IeeeAddress) (a : ShortAddress) (extended : Bool) {s : List ℕ} where
   -- a reply that is not extended

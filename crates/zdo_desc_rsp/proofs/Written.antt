@@ -16,12 +16,13 @@ use Rattle.zigbee_types.specs.Layout.{Field, laid, size, FieldsPut}
 use Rattle.zigbee_types.specs.FieldLaws.{widths}
 use Rattle.zigbee_types.specs.Statuses.{SUCCESS}
 use Rattle.zigbee_types.specs.declared.Refusal.{Refusal}
+use Rattle.zigbee_types.specs.declared.Refusal.the-variants.{ShortBuffer}
 use Rattle.zigbee_types.specs.declared.ShortAddress.{ShortAddress}
 use Rattle.zigbee_types.specs.declared.Written.{Written}
 use Rattle.zigbee_types.specs.declared.Written.the-variants.{Length, Refused}
 use Rattle.zigbee_types.proofs.Layouts.{laid-counted}
 use Rattle.zigbee_types.proofs.Parts.{part-told, part-put}
-use Rattle.zigbee_types.proofs.Runs.{run-put-last, run-put-both, run-writes}
+use Rattle.zigbee_types.proofs.Runs.{run-put-last, run-put-both, run-writes, run-full}
 use Rattle.zdo_replies.specs.Replies.{header, descriptorRspError, emptyRsp}
 
 -- ---- behind the header
@@ -61,7 +62,15 @@ module _ (m : ℕ) (r : Written) where
   unfolding writtenSays mapped
   behind-refused e = rw e
 
--- a descriptor, by a writer that was lent what is behind the header
+-- a descriptor: refused where there is no room for it
+pub described-full :
+    (seq : ℕ) (a : ShortAddress) (fs : List Field) (s : List ℕ)
+    → length s < 4 + size (widths fs)
+    → Wrote (answer (laid (header seq SUCCESS a ++ fs))) s (writtenSays (Refused ShortBuffer)) s
+unfolding writtenSays header size
+described-full seq a fs s h = run-full (header seq SUCCESS a ++ fs) s (omega (arith, h))
+
+-- otherwise written, by a writer that was lent what is behind the header
 module _
     (seq : ℕ)
     (a : ShortAddress)

@@ -17,16 +17,18 @@ use Rattle.zigbee_types.proofs.Layouts.{size-entries}
 use Rattle.zigbee_types.proofs.Runs.{run-put-told, run-put-both, run-writes, run-full}
 use Rattle.zdo_replies.specs.Replies.{header, endpointList, listRsp}
 
--- a list of endpoints
 module _ (seq : ℕ) (a : ShortAddress) (xs s : List ℕ) where
+  -- five bytes, and one for each endpoint
   list-size : size (widths (header seq SUCCESS a ++ endpointList xs)) ≡ 5 + length xs
   unfolding header endpointList size
   list-size = omega (arith, size-entries 1 xs)
 
+  -- refused where there is no room
   pub list-full : length s < 5 + length xs → Wrote (listRsp seq a xs) s (writtenSays (Refused ShortBuffer)) s
   unfolding listRsp writtenSays
   list-full h = run-full (header seq SUCCESS a ++ endpointList xs) s (rw list-size h)
 
+  -- otherwise the header, the count and the endpoints are the reply
   pub list-writes :
       {c k m n : ℕ} {t u v : List ℕ}
       → FieldsPut (header seq SUCCESS a) s 0 m t

@@ -1,39 +1,31 @@
 -- `node_desc_rsp` meets its contract: the header is put, and the descriptor in the part behind it. Assumes nothing.
 use native.Mathlib.Omega.{arith}
 use borrow.Author.Needs.{needs}
-use Rattle.zigbee_types.specs.Answers.{writtenSays}
 use Rattle.zigbee_types.specs.Layout.{size}
-use Rattle.zigbee_types.proofs.Runs.{run-full}
 use Rattle.node_descriptor.specs.NodeDescriptor.{nodeDescriptor}
-use Rattle.zdo_replies.specs.Replies.{header, nodeDescRsp}
-use Rattle.zdo_desc_rsp.proofs.Written.{header-place, described-told, described-writes}
+use Rattle.zdo_replies.specs.Replies.{nodeDescRsp}
+use Rattle.zdo_desc_rsp.proofs.Written.{header-place, described-full, described-told, described-writes}
 use Rattle.zdo_desc_rsp.proofs.descriptor.node_desc_rsp.Statement.{statement}
 use Rattle.zdo_desc_rsp.proofs.descriptor.node_desc_rsp.Tie as tie
 
-full : tie.Need-returns
-unfolding writtenSays size header nodeDescriptor nodeDescRsp
-full c = run-full _ _ (omega arith)
-
-sum : tie.Need-behind-requires
+told : tie.Need-behind-requires
 unfolding size nodeDescriptor
-sum c κs =
+told c κs =
     let lent = c .before .before in
     let front = lent .before .before .before .before in
     described-told _ _ _ _ (front .write-header .ensures) (lent .write .ensures) (front .before .before .if1 .left) tt
 
-answers : tie.Need-returns-2
-unfolding size nodeDescriptor nodeDescRsp
-answers c = search (needs, described-writes)
-
 pub node-desc-rsp-spec : {M : Type 1} → statement M
+unfolding size nodeDescriptor nodeDescRsp
 node-desc-rsp-spec =
     tie.close
-    (tie.spec full
+    (tie.spec
+    (λ c. described-full _ _ _ _ (omega arith))  -- returns
     (λ c κs. search needs)  -- write-header-requires
     (λ c. let at = header-place _ _ _ (c .before .before .write-header .ensures) in search needs)  -- sub-write
     (λ c. let at = header-place _ _ _ (c .before .before .write-header .ensures) in search needs)  -- part-write-start
     (λ c. search needs)  -- part-write-end
     (λ c κs. search needs)  -- write-requires
-    sum  -- behind-requires
+    told  -- behind-requires
     (λ c. search needs)  -- same-length
-    answers)  -- returns-2
+    (λ c. search (needs, described-writes)))  -- returns-2
