@@ -3,6 +3,7 @@ use byte::write_u8;
 use byte::write_u16;
 use byte::write_u64;
 use zdo_replies::descriptor::DiscoveryError;
+use zdo_replies::descriptor::STATUS_SUCCESS;
 use zigbee_types::IeeeAddress;
 use zigbee_types::Refusal;
 use zigbee_types::ShortAddress;
@@ -14,9 +15,6 @@ ghost use Rattle.zigbee_types.specs.Answers.{writtenSays};
 ghost use Rattle.zigbee_types.specs.Layout.{FieldsPut};
 ghost use Rattle.zdo_replies.specs.Codes.{discoveryCode};
 ghost use Rattle.zdo_replies.specs.Replies.{addrHeader, addrRspSingle, addrRsp};
-
-// ZDP status code of a reply that carries data (2.4.5).
-const STATUS_SUCCESS: u8 = 0x00;
 
 // Puts at the front of a buffer what an address reply begins with: seq, status, IEEEAddrRemoteDev, NWKAddrRemoteDev.
 fn write_addr_header(
@@ -53,7 +51,8 @@ fn addr_rsp_single(
 }
 
 // Builds an IEEE_addr_rsp or NWK_addr_rsp (2.4.4.2.1, 2.4.4.2.2). An extended response adds NumAssocDev and StartIndex; this
-// device reports no associated devices, as only a parent keeps that list.
+// device reports no associated devices, as only a parent keeps that list. Too short a buffer is refused, here as in every writer
+// below, and nothing is written.
 pub fn addr_rsp(
     seq: u8,
     ieee_addr: IeeeAddress,
@@ -70,6 +69,7 @@ pub fn addr_rsp(
         return Written::Refused(Refusal::ShortBuffer);
     }
     let at = write_addr_header(out, seq, STATUS_SUCCESS, ieee_addr, nwk_addr);
+    // NumAssocDev, StartIndex; the device list is empty
     let at = write_u8(out, at, 0);
     let at = write_u8(out, at, 0);
     Written::Length(at)

@@ -4,6 +4,7 @@ use byte::write_u16;
 use node_descriptor::descriptor::NodeDescriptorConfig;
 use node_power_descriptor::descriptor::PowerDescriptorConfig;
 use zdo_replies::descriptor::DiscoveryError;
+use zdo_replies::descriptor::STATUS_SUCCESS;
 use zigbee_types::Refusal;
 use zigbee_types::ShortAddress;
 use zigbee_types::Written;
@@ -15,9 +16,6 @@ ghost use Rattle.zigbee_types.specs.Answers.{writtenSays};
 ghost use Rattle.zigbee_types.specs.Layout.{FieldsPut};
 ghost use Rattle.zdo_replies.specs.Codes.{discoveryCode};
 ghost use Rattle.zdo_replies.specs.Replies.{header, nodeDescRsp, powerDescRsp, descriptorRspError, emptyRsp};
-
-// ZDP status code of a reply that carries data (2.4.5).
-const STATUS_SUCCESS: u8 = 0x00;
 
 // ---- node and power
 

@@ -2,6 +2,7 @@
 use byte::write_u8;
 use zdo_desc_rsp::descriptor::write_header;
 use zdo_replies::descriptor::DiscoveryError;
+use zdo_replies::descriptor::STATUS_SUCCESS;
 use zigbee_types::Refusal;
 use zigbee_types::ShortAddress;
 use zigbee_types::Written;
@@ -14,9 +15,6 @@ ghost use mathlib.Core.List.{map};
 ghost use Rattle.zigbee_types.specs.Layout.{byte, FieldsPut};
 ghost use Rattle.zdo_replies.specs.Codes.{discoveryCode};
 ghost use Rattle.zdo_replies.specs.Replies.{listRsp, matchDescRspError};
-
-// ZDP status code of a reply that carries data (2.4.5).
-const STATUS_SUCCESS: u8 = 0x00;
 
 // A list's count as it is written: at most 255.
 fn count_byte(count: usize) -> u8

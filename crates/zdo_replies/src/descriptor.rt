@@ -10,7 +10,7 @@ ghost use Rattle.zdo_replies.specs.Codes.{bindCode, discoveryCode, leave
 ghost use Rattle.zdo_replies.specs.Replies.{statusRsp};
 
 // ZDP status codes (2.4.5).
-const STATUS_SUCCESS: u8 = 0x00;
+pub const STATUS_SUCCESS: u8 = 0x00;
 
 const STATUS_INV_REQUESTTYPE: u8 = 0x80;
 
