@@ -10,13 +10,13 @@ use Rattle.zigbee_types.specs.Bytes.{le, number, numberAt}
 use Rattle.zigbee_types.specs.Layout.{byte, laid, size}
 use Rattle.zigbee_types.specs.Statuses.{SUCCESS}
 use Rattle.zigbee_types.specs.declared.ShortAddress.{ShortAddress}
-use Rattle.zigbee_types.proofs.Layouts.{laid-counted}
+use Rattle.zigbee_types.proofs.Layouts.{laid-counted, size-entries}
 use Rattle.node_descriptor.specs.NodeDescriptor.{nodeDescriptor, nodeWidths}
 use Rattle.node_power_descriptor.specs.PowerDescriptor.{powerDescriptor, powerWidths}
 use Rattle.simple_descriptor.specs.SimpleDescriptor.{Endpoint, clusterCount, simpleHeader, simpleWidths, simpleDescriptor, simpleWritten}
 use Rattle.simple_descriptor.proofs.Written.{simple-length}
 use Rattle.zdo_requests.specs.Requests.{addrOfInterestWidths, addrOfInterestFields, nodeDescReq}
-use Rattle.zdo_replies.specs.Replies.{header, addrHeader, matchErrorFields, statusFields, nodeDescRsp, powerDescRsp, descriptorRspError, listRsp, emptyRsp, matchDescRspError, describedRsp, addrRsp, addrRspSingle, addrRspExtended, statusRsp}
+use Rattle.zdo_replies.specs.Replies.{header, addrHeader, matchErrorFields, statusFields, nodeDescRsp, powerDescRsp, descriptorRspError, endpointList, listRsp, emptyRsp, matchDescRspError, describedRsp, addrRsp, addrRspSingle, addrRspExtended, statusRsp}
 use Rattle.zdo_readers.specs.Readers.{headerWidths, addrWidths, matchErrorWidths, statusWidths}
 use Rattle.demands.specs.Frames.{OneLayout, ReplyLengths}
 
@@ -49,12 +49,12 @@ module _ (seq : ℕ) (a : ShortAddress) (e : Endpoint) (few : clusterCount e ≤
   described-byte = rw (described, simple-length) (ap answer (omega arith))
 
 pub reply-lengths : ReplyLengths
-unfolding mapped nodeDescRsp powerDescRsp descriptorRspError listRsp emptyRsp matchDescRspError addrRsp addrRspSingle addrRspExtended statusRsp nodeDescReq header addrHeader matchErrorFields statusFields addrOfInterestFields nodeDescriptor powerDescriptor size
+unfolding mapped nodeDescRsp powerDescRsp descriptorRspError endpointList listRsp emptyRsp matchDescRspError addrRsp addrRspSingle addrRspExtended statusRsp nodeDescReq header addrHeader matchErrorFields statusFields addrOfInterestFields nodeDescriptor powerDescriptor size
 reply-lengths =
     record {
       node = λ seq a n. ap answer (laid-counted (header seq SUCCESS a ++ nodeDescriptor n));
       power = λ seq a p. ap answer (laid-counted (header seq SUCCESS a ++ powerDescriptor p));
-      list = λ seq a xs. rw (length-append, laid-counted);
+      list = λ seq a xs. rw laid-counted (ap answer (omega (arith, size-entries 1 xs)));
       simple = described-length;
       lengthByte = described-byte;
       single = λ seq l a. rw laid-counted;

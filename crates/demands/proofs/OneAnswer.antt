@@ -1,80 +1,65 @@
 -- Each enum that holds an answer or a refusal comes back from what it says. Assumes nothing.
 use Prim.Native.Nat.{ℕ}
-use mathlib.Core.Path.{_≡_, refl, sym, _∙_}
+use mathlib.Core.Path.{refl, sym, _∙_}
 use mathlib.Core.Bool.{cond}
 use lib.Dec.{eqb}
 use Rattle.zigbee_types.specs.Statuses.{SUCCESS, NO-ENTRY}
 use Rattle.zigbee_types.specs.Answers.{writtenSays, listsSays}
-use Rattle.zigbee_types.specs.declared.Written.{Written}
 use Rattle.zigbee_types.specs.declared.Written.the-variants as written
-use Rattle.zigbee_types.specs.declared.ClusterListsRead.{ClusterListsRead}
 use Rattle.zigbee_types.specs.declared.ClusterListsRead.the-variants as lists
-use Rattle.zigbee_types.proofs.OneOutcome.{from, determined, refused-back, one-wrote}
+use Rattle.zigbee_types.proofs.OneOutcome.{determined, refused-back, one-wrote}
 use Rattle.node_descriptor.specs.NodeDescriptor.{nodeSays}
-use Rattle.node_descriptor.specs.declared.NodeDescriptorRead.{NodeDescriptorRead}
 use Rattle.node_descriptor.specs.declared.NodeDescriptorRead.the-variants as node
 use Rattle.node_power_descriptor.specs.PowerDescriptor.{powerSays}
-use Rattle.node_power_descriptor.specs.declared.NodePowerDescriptorRead.{NodePowerDescriptorRead}
 use Rattle.node_power_descriptor.specs.declared.NodePowerDescriptorRead.the-variants as power
 use Rattle.simple_descriptor.specs.SimpleDescriptor.{simpleSays}
-use Rattle.simple_descriptor.specs.declared.SimpleDescriptorRead.{SimpleDescriptorRead}
 use Rattle.simple_descriptor.specs.declared.SimpleDescriptorRead.the-variants as simple
 use Rattle.aps_binding_table.specs.Answers.{linkSays}
 use Rattle.aps_binding_table.specs.declared.binding.LinkStatus.{LinkStatus}
 use Rattle.aps_binding_table.specs.declared.binding.LinkStatus.the-variants as link
+use Rattle.zdo_requests.specs.Answers.{nwkAddrReqSays, ieeeAddrReqSays, addrOfInterestReqSays, addrOfInterestSays, simpleDescReqSays, matchDescReqSays, bindReqSays, mgmtLeaveReqSays}
+use Rattle.zdo_requests.specs.declared.descriptor.NwkAddrReqRead.the-variants as nwkAddr
+use Rattle.zdo_requests.specs.declared.descriptor.IeeeAddrReqRead.the-variants as ieeeAddr
+use Rattle.zdo_requests.specs.declared.descriptor.AddrOfInterestReqRead.the-variants as interest
+use Rattle.zdo_requests.specs.declared.descriptor.AddrOfInterestRead.the-variants as address
+use Rattle.zdo_requests.specs.declared.descriptor.SimpleDescReqRead.the-variants as simpleReq
+use Rattle.zdo_requests.specs.declared.descriptor.MatchDescReqRead.the-variants as matchReq
+use Rattle.zdo_requests.specs.declared.descriptor.BindReqRead.the-variants as bindReq
+use Rattle.zdo_requests.specs.declared.descriptor.MgmtLeaveReqRead.the-variants as leaveReq
 use Rattle.demands.specs.OneAnswer.{Determines, OneAnswer}
 
-written-again : (w : Written) → from written.Length written.Refused (writtenSays w) ≡ w
+one-written : Determines writtenSays
 unfolding writtenSays
-written-again (written.Length n) = refl
-written-again (written.Refused why) = refused-back written.Refused why
-
-lists-again : (l : ClusterListsRead) → from lists.Lists lists.Refused (listsSays l) ≡ l
-unfolding listsSays
-lists-again (lists.Lists l) = refl
-lists-again (lists.Refused why) = refused-back lists.Refused why
-
-node-again : (d : NodeDescriptorRead) → from node.Descriptor node.Refused (nodeSays d) ≡ d
-unfolding nodeSays
-node-again (node.Descriptor d) = refl
-node-again (node.Refused why) = refused-back node.Refused why
-
-power-again : (d : NodePowerDescriptorRead) → from power.Descriptor power.Refused (powerSays d) ≡ d
-unfolding powerSays
-power-again (power.Descriptor d) = refl
-power-again (power.Refused why) = refused-back power.Refused why
-
-simple-again : (d : SimpleDescriptorRead) → from simple.Descriptor simple.Refused (simpleSays d) ≡ d
-unfolding simpleSays
-simple-again (simple.Descriptor d) = refl
-simple-again (simple.Refused why) = refused-back simple.Refused why
+one-written = determined _ written.Length written.Refused (elim [ written.Length n ↦ refl | written.Refused why ↦ refused-back written.Refused why ])
 
 -- the answer that tells a status
 abbrev linkOf : ℕ → LinkStatus
 linkOf status = cond (eqb status SUCCESS) link.Success (cond (eqb status NO-ENTRY) link.InvalidBinding link.TableFull)
 
-link-again : (l : LinkStatus) → from linkOf link.Refused (linkSays l) ≡ l
-unfolding linkSays
-link-again link.Success = refl
-link-again link.InvalidBinding = refl
-link-again link.TableFull = refl
-link-again (link.Refused why) = refused-back link.Refused why
-
 one-link : Determines linkSays
-one-link = determined linkSays linkOf link.Refused link-again
-
-one-written : Determines writtenSays
-one-written = determined writtenSays written.Length written.Refused written-again
+unfolding linkSays
+one-link =
+    determined _ linkOf link.Refused
+    (elim [ link.Success ↦ refl | link.InvalidBinding ↦ refl | link.TableFull ↦ refl | link.Refused why ↦ refused-back link.Refused why ])
 
 pub one-answer : OneAnswer
+unfolding listsSays nodeSays powerSays simpleSays nwkAddrReqSays ieeeAddrReqSays addrOfInterestReqSays addrOfInterestSays simpleDescReqSays matchDescReqSays bindReqSays mgmtLeaveReqSays
 one-answer =
     record {
       written = one-written;
-      lists = determined listsSays lists.Lists lists.Refused lists-again;
-      node = determined nodeSays node.Descriptor node.Refused node-again;
-      power = determined powerSays power.Descriptor power.Refused power-again;
-      simple = determined simpleSays simple.Descriptor simple.Refused simple-again;
+      lists = determined _ lists.Lists lists.Refused (elim [ lists.Lists l ↦ refl | lists.Refused why ↦ refused-back lists.Refused why ]);
+      node = determined _ node.Descriptor node.Refused (elim [ node.Descriptor d ↦ refl | node.Refused why ↦ refused-back node.Refused why ]);
+      power = determined _ power.Descriptor power.Refused (elim [ power.Descriptor d ↦ refl | power.Refused why ↦ refused-back power.Refused why ]);
+      simple = determined _ simple.Descriptor simple.Refused (elim [ simple.Descriptor d ↦ refl | simple.Refused why ↦ refused-back simple.Refused why ]);
       links = one-link;
+      nwkAddr = determined _ nwkAddr.Request nwkAddr.Refused (elim [ nwkAddr.Request q ↦ refl | nwkAddr.Refused why ↦ refused-back nwkAddr.Refused why ]);
+      ieeeAddr = determined _ ieeeAddr.Request ieeeAddr.Refused (elim [ ieeeAddr.Request q ↦ refl | ieeeAddr.Refused why ↦ refused-back ieeeAddr.Refused why ]);
+      interest = determined _ interest.Request interest.Refused (elim [ interest.Request q ↦ refl | interest.Refused why ↦ refused-back interest.Refused why ]);
+      address = determined _ address.Address address.Refused (elim [ address.Address a ↦ refl | address.Refused why ↦ refused-back address.Refused why ]);
+      simpleReq = determined _ simpleReq.Request simpleReq.Refused (elim [ simpleReq.Request q ↦ refl | simpleReq.Refused why ↦ refused-back simpleReq.Refused why ]);
+      matchReq = determined _ matchReq.Request matchReq.Refused (elim [ matchReq.Request q ↦ refl | matchReq.Refused why ↦ refused-back matchReq.Refused why ]);
+      bindReq = determined _ bindReq.Request bindReq.Refused (elim [ bindReq.Request q ↦ refl | bindReq.Refused why ↦ refused-back bindReq.Refused why ]);
+      leaveReq = determined _ leaveReq.Request leaveReq.Refused (elim [ leaveReq.Request q ↦ refl | leaveReq.Refused why ↦ refused-back leaveReq.Refused why ]);
       writer = λ o before r s after later p q. let (told, left) = one-wrote o before _ _ after later p q in (one-written r s told, left);
       linker =
           λ o t r s p q.

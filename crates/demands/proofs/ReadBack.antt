@@ -1,5 +1,5 @@
--- Named values have their numbers, and a descriptor that was written reads back with its fields cut to their widths. Assumes
--- nothing.
+-- Named values have their numbers, and a descriptor or a node request that was written reads back with its fields cut to their
+-- widths. Assumes nothing.
 use Prim.Native.Nat.{ℕ, _%_, _≤_}
 use native.Mathlib.Omega.{arith}
 use mathlib.Core.Path.{_≡_, refl}
@@ -13,6 +13,7 @@ use Rattle.zigbee_types.specs.Layout.{laid, cut, size, fieldsAt, listed}
 use Rattle.zigbee_types.specs.Lists.{find, option}
 use Rattle.zigbee_types.specs.Named.{named}
 use Rattle.zigbee_types.specs.FieldLaws.{ListsAt}
+use Rattle.zigbee_types.specs.declared.ShortAddress.{ShortAddress}
 use Rattle.zigbee_types.proofs.Layouts.{laid-back, parses, lists-back}
 use Rattle.zigbee_types.proofs.Runs.{laid-append}
 use Rattle.zigbee_types.proofs.Named.{named-number}
@@ -29,7 +30,8 @@ use Rattle.node_power_descriptor.specs.declared.CurrentPowerSourceLevel.the-var
 use Rattle.node_power_descriptor.proofs.Bits.{power-bits}
 use Rattle.simple_descriptor.specs.SimpleDescriptor.{Endpoint, simpleHeader, simpleDescriptor, clusterCount, simpleWritten, simpleWidths, simpleOf, simpleDescriptorIn, simpleFields}
 use Rattle.simple_descriptor.proofs.Written.{header-size}
-use Rattle.demands.specs.ReadBack.{NamesStand, NamesReadBack, cutNode, NodeReadsBack, cutPower, PowerReadsBack, cutEndpoint, SimpleReadsBack}
+use Rattle.zdo_requests.specs.Requests.{addrOfInterestWidths, addrOfInterestReqIn, addrOfInterestIn, addrOfInterestFields, nodeDescReq}
+use Rattle.demands.specs.ReadBack.{NamesStand, NamesReadBack, cutNode, NodeReadsBack, cutPower, PowerReadsBack, cutEndpoint, SimpleReadsBack, cutNodeReq, NodeReqReadsBack}
 use Rattle.demands.proofs.Frames.{one-layout}
 
 -- ---- named values
@@ -120,3 +122,17 @@ simple-reads-back e before after told w =
     let (few, same) = granted (leb (clusterCount e) 28) (answer (laid (simpleDescriptor e))) 4 came in
     let whole : bytes ≡ laid (simpleDescriptor e) = cc in
     rw (stands .left, whole) (simple-back e _ (leb-true (clusterCount e) 28 few))
+
+-- ---- the node request
+
+-- whatever stands behind it
+pub node-req-back :
+    (seq : ℕ) (a : ShortAddress) (rest : List ℕ) → addrOfInterestReqIn (laid (addrOfInterestFields seq a) ++ rest) ≡ answer (cutNodeReq seq a)
+unfolding addrOfInterestReqIn addrOfInterestFields cut cutNodeReq
+node-req-back seq a rest = parses addrOfInterestWidths _ (addrOfInterestFields seq a) rest (one-layout .nodeRequest seq a)
+
+pub node-req-reads-back : NodeReqReadsBack
+unfolding mapped addrOfInterestIn nodeDescReq cutNodeReq
+node-req-reads-back seq a before after told w =
+    let back : addrOfInterestReqIn after ≡ answer (cutNodeReq seq a) = rw (wrote-bytes w .left) (node-req-back seq a _) in
+    (back, rw back)

@@ -3,17 +3,13 @@
 use Prim.Native.Nat.{ℕ}
 use mathlib.Core.List.{List, [], _∷_, _++_, map}
 use lib.ListN.{length, take, drop, replicate}
-use Rattle.zigbee_types.specs.Bytes.{bit}
 use Rattle.zigbee_types.specs.Outcome.{Outcome, answer, refusal, mapped, fitted, written}
 use Rattle.zigbee_types.specs.Addresses.{shortOf}
 use Rattle.node_descriptor.specs.declared.LogicalType.{LogicalType}
 use Rattle.node_descriptor.specs.declared.LogicalType.the-variants as type
 use Rattle.aps_binding.specs.Entry.{key}
 use Rattle.aps_binding_table.specs.Table.{emptyTable}
-use Rattle.zdo_requests.specs.Requests.{addrOfInterestIn, mgmtLeaveReqIn, nodeDescReq}
-use Rattle.zdo_requests.specs.declared.descriptor.MgmtLeaveReq.{MgmtLeaveReq}
-use Rattle.zdo_requests.specs.declared.descriptor.OptionIeeeAddress.{OptionIeeeAddress}
-use Rattle.zdo_requests.specs.declared.descriptor.OptionIeeeAddress.the-variants as optional
+use Rattle.zdo_requests.specs.Requests.{nodeDescReq}
 use Rattle.zdo_dispatcher.specs.Host.{Host, Asked, asking}
 use Rattle.zdo_dispatcher.specs.Answers.{Told, replied, leaving, toldOf, answered, bufferAfter, run, runTable}
 use Rattle.demands.specs.OurDevice.{ourPower, ourPools, ourDescriptors, ours, endpoint1, endpoint2, endpointAt, deviceOf, hostOf}
@@ -256,25 +252,4 @@ Telling =
           ∷ mapped (λ a. toldNumbers (toldOf a)) (answered ours (emptyTable 32) (asking 0x0034 (0x07 ∷ replicate 9 0x00) []))
           ∷ [];
       expected = answer (0x8021 ∷ 2 ∷ []) ∷ refusal 5 ∷ answer (7 ∷ []) ∷ [];
-    }
-
--- the address, where there is one
-abbrev pub someAddress : OptionIeeeAddress → List ℕ
-someAddress (optional.Some a) = a .0 ∷ []
-someAddress optional.None = []
-
--- seq, children, rejoin, and the address, where there is one
-abbrev pub leaveNumbers : MgmtLeaveReq → List ℕ
-leaveNumbers q = q .seq ∷ bit (q .«remove_children») ∷ bit (q .rejoin) ∷ someAddress (q .«device_address»)
-
--- no address and bit 6; an address and all but bit 6. The address of interest of a node request.
-unfoldable pub LeaveRequest : Case
-LeaveRequest =
-    record {
-      says =
-          mapped leaveNumbers (mgmtLeaveReqIn (0x07 ∷ replicate 8 0x00 ++ 0x40 ∷ []))
-          ∷ mapped leaveNumbers (mgmtLeaveReqIn (0x07 ∷ 0x01 ∷ replicate 7 0x00 ++ 0xBF ∷ []))
-          ∷ mapped (λ a. a .0 ∷ []) (addrOfInterestIn (0x07 ∷ 0x34 ∷ 0x12 ∷ []))
-          ∷ [];
-      expected = answer (7 ∷ 1 ∷ 0 ∷ []) ∷ answer (7 ∷ 0 ∷ 1 ∷ 1 ∷ []) ∷ answer (0x1234 ∷ []) ∷ [];
     }

@@ -2,6 +2,8 @@ pub mod OurDevice
 pub mod Cases
 pub mod CounterCases
 pub mod DispatchCases
+pub mod RequestCases
+pub mod ReplyCases
 pub mod DeviceCases
 pub mod Calls
 pub mod History

@@ -14,6 +14,7 @@ use Rattle.aps_binding_table.specs.Held.{Step}
 use Rattle.aps_binding_table.specs.Table.{Leaves}
 use Rattle.aps_binding_table.specs.declared.binding.BindingTable.{BindingTable}
 use Rattle.aps_binding_table.specs.declared.binding.Linked.{Linked}
+use Rattle.zdo_requests.specs.Answers.{nwkAddrReqSays, ieeeAddrReqSays, addrOfInterestReqSays, addrOfInterestSays, simpleDescReqSays, matchDescReqSays, bindReqSays, mgmtLeaveReqSays}
 
 -- what an answer says determines it
 abbrev pub Determines : {A B : Type 0} → (A → B) → Type 0
@@ -28,6 +29,14 @@ pub record OneAnswer : Type 0 where
   pub power : Determines powerSays
   pub simple : Determines simpleSays
   pub links : Determines linkSays
+  pub nwkAddr : Determines nwkAddrReqSays
+  pub ieeeAddr : Determines ieeeAddrReqSays
+  pub interest : Determines addrOfInterestReqSays
+  pub address : Determines addrOfInterestSays
+  pub simpleReq : Determines simpleDescReqSays
+  pub matchReq : Determines matchDescReqSays
+  pub bindReq : Determines bindReqSays
+  pub leaveReq : Determines mgmtLeaveReqSays
   pub writer :
       (o : Outcome (List ℕ)) (before : List ℕ) (r s : Written) (after later : List ℕ)
       → Wrote o before (writtenSays r) after

@@ -1,11 +1,14 @@
--- What numbers stand for in fields of named values, and that what a descriptor's writer wrote is read as the fields that it was
--- given, cut to their widths, as statements (document 01, modules 2 to 4). A term of each stands in proofs/.
+-- What numbers stand for in fields of named values, and that what the writer of a descriptor or of a node request wrote is read
+-- as the fields that it was given, cut to their widths, as statements (document 01, modules 2 to 5). A term of each stands in
+-- proofs/.
 use Prim.Native.Nat.{ℕ, _%_}
 use mathlib.Core.Path.{_≡_}
 use mathlib.Core.Bool.{cond}
 use mathlib.Core.List.{List, [], _∷_, map}
 use Rattle.zigbee_types.specs.Outcome.{answer, refusal, mapped, Wrote}
 use Rattle.zigbee_types.specs.Layout.{laid}
+use Rattle.zigbee_types.specs.Addresses.{shortOf}
+use Rattle.zigbee_types.specs.declared.ShortAddress.{ShortAddress}
 use Rattle.node_descriptor.specs.NodeDescriptor.{typeNumber, typeBits, logicalType, nodeDescriptor, nodeDescriptorIn, nodeFields}
 use Rattle.node_descriptor.specs.declared.descriptor.NodeDescriptorConfig.{NodeDescriptorConfig}
 use Rattle.node_descriptor.specs.declared.LogicalType.the-variants as type
@@ -15,6 +18,8 @@ use Rattle.node_power_descriptor.specs.declared.CurrentPowerMode.the-variants a
 use Rattle.node_power_descriptor.specs.declared.PowerSource.the-variants as source
 use Rattle.node_power_descriptor.specs.declared.CurrentPowerSourceLevel.the-variants as level
 use Rattle.simple_descriptor.specs.SimpleDescriptor.{Endpoint, simpleWritten, simpleDescriptorIn, simpleFields}
+use Rattle.zdo_requests.specs.Requests.{addrOfInterestReqIn, addrOfInterestIn, nodeDescReq}
+use Rattle.zdo_requests.specs.declared.descriptor.AddrOfInterestReq.{AddrOfInterestReq}
 
 -- ---- named values
 
@@ -95,3 +100,17 @@ SimpleReadsBack =
     (e : Endpoint) (before after : List ℕ) (told : ℕ)
     → Wrote (simpleWritten e) before (answer told) after
     → mapped (simpleFields after) (simpleDescriptorIn after) ≡ answer (cutEndpoint e)
+
+-- ---- the node request
+
+-- seq and address, cut to one byte and to two
+unfoldable pub cutNodeReq : ℕ → ShortAddress → AddrOfInterestReq
+cutNodeReq seq address = record { seq = seq % 256; «nwk_addr_of_interest» = shortOf (address .0 % 65536) }
+
+-- a node request that was written is parsed back, whatever stands behind it: both fields, and by the other parser the address alone
+abbrev pub NodeReqReadsBack : Type 0
+NodeReqReadsBack =
+    (seq : ℕ) (address : ShortAddress) (before after : List ℕ) (told : ℕ)
+    → Wrote (nodeDescReq seq address) before (answer told) after
+    → (addrOfInterestReqIn after ≡ answer (cutNodeReq seq address))
+    × (addrOfInterestIn after ≡ answer (shortOf (address .0 % 65536)))
