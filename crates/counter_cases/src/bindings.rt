@@ -7,6 +7,7 @@ use aps_binding_table::binding::LinkStatus;
 use aps_binding_table::binding::Linked;
 use aps_binding_table::binding::create_binding_link;
 use aps_binding_table::binding::remove_binding_link;
+use zdo_replies::descriptor::BindStatus;
 use zigbee_types::GroupAddress;
 use zigbee_types::IeeeAddress;
 
@@ -114,12 +115,12 @@ fn told(linked: Linked) -> BindingTable {
     linked.table
 }
 
-// A status by document 01's number, or a refusal.
+// A status by the number that reports it, or a refusal.
 fn print_status(status: LinkStatus) {
     match status {
-        LinkStatus::Success => print::byte(0x00),
-        LinkStatus::InvalidBinding => print::byte(0x88),
-        LinkStatus::TableFull => print::byte(0x8C),
+        LinkStatus::Success => print::byte(BindStatus::Success.code()),
+        LinkStatus::InvalidBinding => print::byte(BindStatus::NoEntry.code()),
+        LinkStatus::TableFull => print::byte(BindStatus::TableFull.code()),
         LinkStatus::Refused(why) => print::refusal(why),
     }
 }

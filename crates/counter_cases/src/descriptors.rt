@@ -16,7 +16,7 @@ use simple_descriptor::SimpleDescriptorRead;
 use simple_descriptor::descriptor;
 
 // Our device (document 01, "Counter-cases").
-fn our_node() -> NodeDescriptorConfig {
+pub(crate) fn our_node() -> NodeDescriptorConfig {
     NodeDescriptorConfig {
         logical_type: LogicalType::EndDevice,
         complex_descriptor_available: false,
@@ -33,7 +33,7 @@ fn our_node() -> NodeDescriptorConfig {
 }
 
 // Our device's power, whose bytes are `42 84`: mode 2, the one available source 4, in use, at level 8.
-fn our_power() -> PowerDescriptorConfig {
+pub(crate) fn our_power() -> PowerDescriptorConfig {
     PowerDescriptorConfig {
         current_power_mode: CurrentPowerMode::Stimulated,
         available_power_sources: PowerSource::bitmap(&[4]),

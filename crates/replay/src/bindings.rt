@@ -1,4 +1,5 @@
 // The questions about the entries of the binding table (oracle/README.md, "Binding table"), and the entries that a word says.
+use crate::links;
 use crate::out;
 use crate::words;
 use crate::words::asks;
@@ -34,14 +35,14 @@ fn asked(line: &[u8]) -> Question {
     Question::Other
 }
 
-// Puts the answer to a question about entries. The place stays where the line is none.
+// Puts the answer to a question about entries, or about a sequence of binds and unbinds. The place stays where the line is none.
 pub(crate) fn answer(line: &[u8], out: &mut [u8], at: usize) -> usize {
     match asked(line) {
         Question::Group => put_entry(group(line), out, at),
         Question::Device => put_entry(device(line), out, at),
         Question::Matches => out::flag(out, at, matches(line)),
         Question::Eq => out::flag(out, at, eq(line)),
-        Question::Other => at,
+        Question::Other => links::answer(line, out, at),
     }
 }
 

@@ -9,6 +9,7 @@ use aps_binding_table::binding::LinkStatus;
 use aps_binding_table::binding::Linked;
 use aps_binding_table::binding::create_binding_link;
 use aps_binding_table::binding::remove_binding_link;
+use zdo_replies::descriptor::BindStatus;
 ghost use Prim.Native.Nat.{_≤_};
 
 // Puts the answer to the question about a sequence. The place stays where the line is none.
@@ -118,9 +119,9 @@ fn step(table: BindingTable, word: &[u8]) -> Linked {
 // Puts a status. The oracle never answers `R`: a refusal, which no table of this question earns, would show.
 fn put_status(status: LinkStatus, out: &mut [u8], at: usize) -> usize {
     match status {
-        LinkStatus::Success => out::hex_u8(out, at, 0x00),
-        LinkStatus::InvalidBinding => out::hex_u8(out, at, 0x88),
-        LinkStatus::TableFull => out::hex_u8(out, at, 0x8C),
+        LinkStatus::Success => out::hex_u8(out, at, BindStatus::Success.code()),
+        LinkStatus::InvalidBinding => out::hex_u8(out, at, BindStatus::NoEntry.code()),
+        LinkStatus::TableFull => out::hex_u8(out, at, BindStatus::TableFull.code()),
         LinkStatus::Refused(_) => out::byte(out, at, b'R'),
     }
 }

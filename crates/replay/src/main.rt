@@ -9,6 +9,8 @@ mod links;
 mod node;
 mod out;
 mod power;
+mod replies;
+mod requests;
 mod simple;
 mod values;
 mod words;
@@ -36,11 +38,11 @@ fn answer(line: &[u8], space: &mut [u8], clusters: &mut [u16], out: &mut [u8], a
     if next > at {
         return next;
     }
-    let next = bindings::answer(line, out, at);
+    let next = requests::answer(line, space, out, at);
     if next > at {
         return next;
     }
-    let next = links::answer(line, out, at);
+    let next = bindings::answer(line, out, at);
     if next > at {
         return next;
     }

@@ -62,7 +62,7 @@ fn write(line: &[u8], space: &mut [u8], out: &mut [u8], at: usize) -> usize {
 }
 
 // The configuration that a word says.
-fn node_of(word: &[u8]) -> NodeDescriptorConfig {
+pub(crate) fn node_of(word: &[u8]) -> NodeDescriptorConfig {
     NodeDescriptorConfig {
         logical_type: values::logical_type(u16_at(word, 0)),
         complex_descriptor_available: u8_at(word, 2) == 1,

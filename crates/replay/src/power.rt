@@ -56,7 +56,7 @@ fn write(line: &[u8], space: &mut [u8], out: &mut [u8], at: usize) -> usize {
 }
 
 // The configuration that a word says, with the bits of the available sources.
-fn power_of(word: &[u8], available_power_sources: u8) -> PowerDescriptorConfig {
+pub(crate) fn power_of(word: &[u8], available_power_sources: u8) -> PowerDescriptorConfig {
     PowerDescriptorConfig {
         current_power_mode: values::mode(u16_at(word, 0)),
         available_power_sources,

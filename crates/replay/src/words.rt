@@ -6,6 +6,8 @@
 //     b            bytes
 //     c            clusters
 //     d            a place or a count in decimal, of at most nine digits
+//     f            a flag
+//     r, R         a reason of two, or of five
 //     e            an endpoint
 //     t, m, s, l   a named value: a logical type, a power mode, a power source, a level of one
 //     S            power sources
@@ -64,6 +66,9 @@ fn is_of(word: &[u8], kind: u8) -> bool {
         b'b' => is_bytes(word),
         b'c' => is_clusters(word),
         b'd' => is_decimal(word),
+        b'f' => is_flag(word),
+        b'r' => is_reason(word, 2),
+        b'R' => is_reason(word, 5),
         b'e' => is_hex(word, 12),
         b't' | b'm' | b's' | b'l' => is_named_value(word, kind),
         b'S' => is_sources(word),
@@ -105,6 +110,16 @@ fn is_clusters(word: &[u8]) -> bool {
         return true;
     }
     word.len() % 4 == 0
+}
+
+// Whether a word is a flag, `0` or `1`.
+fn is_flag(word: &[u8]) -> bool {
+    check::same(word, b"0") || check::same(word, b"1")
+}
+
+// Whether a word is the place of a value among so many.
+fn is_reason(word: &[u8], count: u8) -> bool {
+    is_hex(word, 2) && u8_at(word, 0) < count
 }
 
 // Whether a word is a named value of the kind that has this letter.
