@@ -50,7 +50,7 @@ fn addr_rsp_single(
     Written::Length(at)
 }
 
-// Builds an IEEE_addr_rsp or NWK_addr_rsp (2.4.4.2.1, 2.4.4.2.2). An extended response adds NumAssocDev and StartIndex; this
+// Builds a NWK_addr_rsp or IEEE_addr_rsp (2.4.4.2.1, 2.4.4.2.2). An extended response adds NumAssocDev and StartIndex; this
 // device reports no associated devices, as only a parent keeps that list. Too short a buffer is refused, here as in every writer
 // below, and nothing is written.
 pub fn addr_rsp(
@@ -75,7 +75,7 @@ pub fn addr_rsp(
     Written::Length(at)
 }
 
-// Builds an IEEE_addr_rsp or NWK_addr_rsp reporting an error (2.4.4.2.1): the associated-device fields are omitted, the echoed
+// Builds a NWK_addr_rsp or IEEE_addr_rsp reporting an error (2.4.4.2.1, 2.4.4.2.2): the associated-device fields are omitted, the echoed
 // addresses are not.
 pub fn addr_rsp_error(
     seq: u8,

@@ -45,22 +45,22 @@ module _ (seq status : ℕ) (a : ShortAddress) {s t : List ℕ} {m : ℕ} (p : F
   empty-writes q h = run-writes (run-put-last p q) h
 
 -- where the writer of the later part told a length, the sum is one that the machine has
-pub behind-fits :
+pub whole-fits :
     (m : ℕ) (r : Written) {n : ℕ} → (k : ℕ) × (writtenSays r ≡ answer k) × (m + k < 2 ^ 64) → r ≡ Length n → Fits w64 (m + n)
 unfolding writtenSays
-behind-fits m r {n} (k, said, small) e =
+whole-fits m r {n} (k, said, small) e =
     let same : n ≡ k = let s = rw e at said in cc in
     record { fits = rw same small }
 
 -- it is told, and a refusal stays
 module _ (m : ℕ) (r : Written) where
-  pub behind-length : {n : ℕ} → r ≡ Length n → writtenSays (Length (m + n)) ≡ mapped (λ n. m + n) (writtenSays r)
+  pub whole-length : {n : ℕ} → r ≡ Length n → writtenSays (Length (m + n)) ≡ mapped (λ n. m + n) (writtenSays r)
   unfolding writtenSays mapped
-  behind-length e = rw e
+  whole-length e = rw e
 
-  pub behind-refused : {why : Refusal} → r ≡ Refused why → writtenSays (Refused why) ≡ mapped (λ n. m + n) (writtenSays r)
+  pub whole-refused : {why : Refusal} → r ≡ Refused why → writtenSays (Refused why) ≡ mapped (λ n. m + n) (writtenSays r)
   unfolding writtenSays mapped
-  behind-refused e = rw e
+  whole-refused e = rw e
 
 -- a descriptor: refused where there is no room for it
 pub described-full :

@@ -19,7 +19,8 @@ ghost use Rattle.zdo_replies.specs.Replies.{header, nodeDescRsp, powerDescRsp, 
 
 // ---- node and power
 
-// Puts at the front of a buffer what most replies begin with: seq, status, NWKAddrOfInterest.
+// Puts at the front of a buffer what most replies begin with: seq, status, NWKAddrOfInterest. The replies that call it have tested
+// the room.
 pub fn write_header(out: &mut [u8], seq: u8, status: u8, nwk_addr: ShortAddress) -> usize
     requires { ⌜ 4 ≤ length (now out) ⌝ }
     ensures { λ r. ⌜ FieldsPut (header seq status «nwk_addr») (now (out .entry)) 0 r (now (out .exit)) ⌝ }
@@ -29,8 +30,8 @@ pub fn write_header(out: &mut [u8], seq: u8, status: u8, nwk_addr: ShortAddress)
     write_u16(out, at, nwk_addr.0)
 }
 
-// What a reply comes to whose later part, from a place on, came to `written`.
-fn behind(at: usize, written: Written) -> Written
+// What a reply comes to whose later part, from a place on, came to `written`: the length of the whole.
+fn whole(at: usize, written: Written) -> Written
     requires { ⌜ ((n : ℕ) × (writtenSays written ≡ answer n) × (at + n < 2 ^ 64)) ⌝ }
     ensures { λ r. ⌜ writtenSays r ≡ mapped (λ n. at + n) (writtenSays written) ⌝ }
 {
@@ -55,7 +56,7 @@ pub fn node_desc_rsp(
     }
     let at = write_header(out, seq, STATUS_SUCCESS, nwk_addr);
     let written = node.write(&mut out[at..]);
-    behind(at, written)
+    whole(at, written)
 }
 
 // Builds a Power_Desc_rsp (2.4.4.2.4): seq, status, NWKAddrOfInterest, power descriptor.
@@ -72,7 +73,7 @@ pub fn power_desc_rsp(
     }
     let at = write_header(out, seq, STATUS_SUCCESS, nwk_addr);
     let written = power.write(&mut out[at..]);
-    behind(at, written)
+    whole(at, written)
 }
 
 // Builds a Node_Desc_rsp or Power_Desc_rsp reporting an error (2.4.4.2.3, 2.4.4.2.4): seq, status, NWKAddrOfInterest; the

@@ -1,2 +1,2 @@
-// The replies that begin with the address of interest, but for the lists: node, power and the errors (2.4.4.2).
+// Node and power replies, and the errors that carry the address of interest (2.4.4.2).
 pub mod descriptor;

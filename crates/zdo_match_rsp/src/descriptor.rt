@@ -54,7 +54,7 @@ pub fn match_desc_rsp(seq: u8, nwk_addr: ShortAddress, matches: &[u8], out: &mut
     Written::Length(at)
 }
 
-// Builds a Match_Desc_rsp carrying only Status and MatchLength (2.4.4.2.7); its error form has no NWKAddrOfInterest.
+// Builds a Match_Desc_rsp reporting an error (2.4.4.2.7): seq, status and a MatchLength of zero, without NWKAddrOfInterest.
 pub fn match_desc_rsp_error(seq: u8, error: DiscoveryError, out: &mut [u8]) -> Written
     ensures { λ r. ⌜ Wrote (matchDescRspError seq (discoveryCode error)) (now (out .entry)) (writtenSays r) (now (out .exit)) ⌝ }
 {

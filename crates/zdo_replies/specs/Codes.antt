@@ -21,7 +21,7 @@ abbrev pub discoveryCode : DiscoveryError → ℕ
 discoveryCode error.InvalidRequestType = INV-REQUESTTYPE
 discoveryCode error.DeviceNotFound = DEVICE-NOT-FOUND
 
--- `leave_status` (document 01, "Replies"; 2.4.4.4.5)
+-- `leave_status` (document 01, "Replies"; 2.4.5, 2.4.4.4.5)
 abbrev pub leaveStatus : NlmeLeaveStatus → ℕ
 leaveStatus leave.Success = SUCCESS
 leaveStatus leave.InvalidRequest = INV-REQUESTTYPE

@@ -56,9 +56,9 @@ impl BindStatus {
 
 // Why a discovery request could not be answered with data (2.4.4.2).
 pub enum DiscoveryError {
-    // The request named another device and this device cannot answer for it.
+    // The request is none that this device answers: it names another device, or asks for an unknown kind of address reply.
     InvalidRequestType,
-    // The request named a device this router knows nothing about.
+    // The request names a device that this one knows nothing about.
     DeviceNotFound,
 }
 
@@ -74,7 +74,7 @@ impl DiscoveryError {
     }
 }
 
-// Maps an NLME-LEAVE.confirm status onto the ZDP status enumeration (2.4.5).
+// Maps an NLME-LEAVE.confirm status onto the ZDP status enumeration (2.4.5), as Mgmt_Leave_rsp says it (2.4.4.4.5).
 pub fn leave_status(status: NlmeLeaveStatus) -> u8
     ensures { λ r. ⌜ r ≡ leaveStatus status ⌝ }
 {

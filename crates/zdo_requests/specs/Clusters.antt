@@ -1,4 +1,4 @@
--- The numbers that requests are told apart by (2.4.3), under the Rust's names: first the clusters of the ten requests.
+-- The numbers that requests are told apart by (2.4.3), under the Rust's names, with hyphens: first the clusters of the ten requests.
 use Prim.Native.Nat.{ℕ, _+_}
 
 abbrev pub NWK-ADDR-REQ : ℕ

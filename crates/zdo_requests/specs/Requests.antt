@@ -1,4 +1,4 @@
--- The ten requests, from bytes to fields (document 01, "Payloads"; 2.4.3). A payload that is shorter than its fields and lists
+-- The ten requests, from bytes to fields, and the node request as it is written (document 01, "Payloads"; 2.4.3). A payload that is shorter than its fields and lists
 -- is refusal 3, and bytes behind them are ignored.
 use Prim.Native.Nat.{ℕ, _+_}
 use mathlib.Core.Bool.{cond}
@@ -86,7 +86,8 @@ groupIn bytes at = needing (at + 2) bytes (Group (groupOf (numberAt 2 bytes at))
 unfoldable pub deviceIn : List ℕ → ℕ → Outcome BindReqDestination
 deviceIn bytes at = needing (at + 9) bytes (Device (ieeeOf (numberAt 8 bytes at)) (numberAt 1 bytes (at + 8)))
 
--- the destination of which the mode is the byte at a place; any other mode is refusal 3. Bytes that end before it have mode 0.
+-- the destination of which the mode is the byte at a place: 1 a group, 3 a device, any other refusal 3. Bytes that end before the
+-- mode have mode 0.
 unfoldable pub destinationIn : List ℕ → ℕ → Outcome BindReqDestination
 destinationIn bytes at =
     let mode = numberAt 1 bytes at in

@@ -247,7 +247,7 @@ pub fn parse_addr_of_interest_req(asdu: &[u8]) -> AddrOfInterestReqRead
     })
 }
 
-// Reads the NWKAddrOfInterest a discovery request is about (2.4.3.1.3 to 2.4.3.1.6).
+// Reads the NWKAddrOfInterest a discovery request is about (2.4.3.1.3 to 2.4.3.1.6); of a simple request it needs no endpoint.
 pub fn parse_addr_of_interest(asdu: &[u8]) -> AddrOfInterestRead
     ensures { λ r. ⌜ addrOfInterestSays r ≡ addrOfInterestIn (now (asdu .entry)) ⌝ }
 {

@@ -1,2 +1,2 @@
-// The ten requests that a device answers (2.4.3).
+// The ten requests (2.4.3), from bytes to fields, and the one that is written.
 pub mod descriptor;

@@ -5,7 +5,7 @@ use mathlib.Core.Bool.{cond}
 use lib.Dec.{eqb}
 use Rattle.zigbee_types.specs.Outcome.{Outcome, answer, refusal}
 use Rattle.zigbee_types.specs.Refusals.{refusalNumber}
-use Rattle.zigbee_types.specs.OneOutcome.{OneRead, OnePut, OneWrote, OneBegun}
+use Rattle.zigbee_types.specs.OneOutcome.{OneRead, OnePut, OneRun, OneWrote, OneBegun}
 use Rattle.zigbee_types.specs.declared.Refusal.{Refusal}
 use Rattle.zigbee_types.specs.declared.Refusal.the-variants.{BadTables, UnknownCluster, Malformed, TooManyClusters, ShortBuffer}
 
@@ -18,6 +18,9 @@ one-read k bytes at v w m n p q = both (p .told) (p .moved) (q .told) (q .moved)
 
 pub one-put : OnePut
 one-put k x before at m n after later p q = both (p .moved) (p .left) (q .moved) (q .left)
+
+pub one-run : OneRun
+one-run fs before at m n after later p q = both (p .moved) (p .left) (q .moved) (q .left)
 
 pub one-wrote : OneWrote
 one-wrote o before r s after later p q = both (p .said) (p .left) (q .said) (q .left)

@@ -5,6 +5,7 @@ use mathlib.Core.Path.{_≡_}
 use mathlib.Core.List.{List}
 use Rattle.zigbee_types.specs.Outcome.{Outcome, Wrote, Begun}
 use Rattle.zigbee_types.specs.Bytes.{FieldRead, FieldPut}
+use Rattle.zigbee_types.specs.Layout.{Field, FieldsPut}
 
 -- a field read: its value and the place behind it
 abbrev pub OneRead : Type 0
@@ -20,6 +21,14 @@ OnePut =
     (k x : ℕ) (before : List ℕ) (at m n : ℕ) (after later : List ℕ)
     → FieldPut k x before at m after
     → FieldPut k x before at n later
+    → (m ≡ n) × (after ≡ later)
+
+-- fields put: the place behind them and the buffer
+abbrev pub OneRun : Type 0
+OneRun =
+    (fs : List Field) (before : List ℕ) (at m n : ℕ) (after later : List ℕ)
+    → FieldsPut fs before at m after
+    → FieldsPut fs before at n later
     → (m ≡ n) × (after ≡ later)
 
 -- a reply written: what is told and the buffer

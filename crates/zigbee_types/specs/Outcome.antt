@@ -26,7 +26,7 @@ module _ {A B : Type 0} where
 unfoldable pub needing : {A : Type 0} → ℕ → List ℕ → A → Outcome A
 needing n bytes a = cond (leb n (length bytes)) (answer a) (refusal 3)
 
--- refusal 5: the reply is longer than the room for it
+-- refusal 5: what is to be written, mostly a reply, is longer than the room for it
 unfoldable pub fitted : ℕ → Outcome (List ℕ) → Outcome (List ℕ)
 fitted room (answer bytes) = cond (leb (length bytes) room) (answer bytes) (refusal 5)
 fitted room (refusal n) = refusal n

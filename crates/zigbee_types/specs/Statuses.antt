@@ -1,4 +1,4 @@
--- The statuses of replies (2.4.5), by the Rust's names.
+-- The statuses of replies (2.4.5), by the Rust's names without their STATUS_.
 use Prim.Native.Nat.{ℕ}
 
 abbrev pub SUCCESS : ℕ

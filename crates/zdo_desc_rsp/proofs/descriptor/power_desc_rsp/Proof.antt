@@ -8,7 +8,7 @@ use Rattle.zdo_desc_rsp.proofs.Written.{header-place, described-full, d
 use Rattle.zdo_desc_rsp.proofs.descriptor.power_desc_rsp.Statement.{statement}
 use Rattle.zdo_desc_rsp.proofs.descriptor.power_desc_rsp.Tie as tie
 
-told : tie.Need-behind-requires
+told : tie.Need-whole-requires
 unfolding size powerDescriptor
 told c κs =
     let lent = c .before .before in
@@ -26,6 +26,6 @@ power-desc-rsp-spec =
     (λ c. let at = header-place _ _ _ (c .before .before .write-header .ensures) in search needs)  -- part-write-start
     (λ c. search needs)  -- part-write-end
     (λ c κs. search needs)  -- write-requires
-    told  -- behind-requires
+    told  -- whole-requires
     (λ c. search needs)  -- same-length
     (λ c. search (needs, described-writes)))  -- returns-2
