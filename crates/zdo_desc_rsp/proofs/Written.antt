@@ -21,6 +21,7 @@ use Rattle.zigbee_types.specs.declared.ShortAddress.{ShortAddress}
 use Rattle.zigbee_types.specs.declared.Written.{Written}
 use Rattle.zigbee_types.specs.declared.Written.the-variants.{Length, Refused}
 use Rattle.zigbee_types.proofs.Layouts.{laid-counted}
+use Rattle.zigbee_types.proofs.Outcomes.{wrote-bytes}
 use Rattle.zigbee_types.proofs.Parts.{part-told, part-put}
 use Rattle.zigbee_types.proofs.Runs.{run-put-last, run-put-both, run-writes, run-full}
 use Rattle.zdo_replies.specs.Replies.{header, descriptorRspError, emptyRsp}
@@ -46,11 +47,9 @@ module _ (seq status : ℕ) (a : ShortAddress) {s t : List ℕ} {m : ℕ} (p : F
 
 -- where the writer of the later part told a length, the sum is one that the machine has
 pub whole-fits :
-    (m : ℕ) (r : Written) {n : ℕ} → (k : ℕ) × (writtenSays r ≡ answer k) × (m + k < 2 ^ 64) → r ≡ Length n → Fits w64 (m + n)
+    (m : ℕ) (r : Written) {n : ℕ} → ((k : ℕ) → writtenSays r ≡ answer k → m + k < 2 ^ 64) → r ≡ Length n → Fits w64 (m + n)
 unfolding writtenSays
-whole-fits m r {n} (k, said, small) e =
-    let same : n ≡ k = let s = rw e at said in cc in
-    record { fits = rw same small }
+whole-fits m r {n} small e = record { fits = small n (rw e) }
 
 -- it is told, and a refusal stays
 module _ (m : ℕ) (r : Written) where
@@ -70,37 +69,48 @@ pub described-full :
 unfolding writtenSays header size
 described-full seq a fs s h = run-full (header seq SUCCESS a ++ fs) s (omega (arith, h))
 
+-- a length that the descriptor's writer tells is one that the machine has behind the header
+pub described-told :
+    (fs : List Field) {m : ℕ} {part v : List ℕ} (r : Written)
+    → m ≡ 4
+    → Wrote (answer (laid fs)) part (writtenSays r) v
+    → T (ltb (4 + size (widths fs)) (2 ^ 64))
+    → (n : ℕ) → writtenSays r ≡ answer n → m + n < 2 ^ 64
+described-told fs {m} r place w h n e =
+    let stands = wrote-bytes (rw e at w) in
+    let sum : m + n ≡ 4 + size (widths fs) = omega (arith, place, stands .long, laid-counted fs) in
+    rw sum (ltb→lt _ _ h)
+
 -- otherwise written, by a writer that was lent what is behind the header
 module _
     (seq : ℕ)
     (a : ShortAddress)
     (fs : List Field)
     {s t v : List ℕ}
-    {m : ℕ}
+    {k m : ℕ}
     (r : Written)
     (p : FieldsPut (header seq SUCCESS a) s 0 m t)
-    (w : Wrote (answer (laid fs)) (midOf m (length t - m) t) (writtenSays r) v)
+    (w : Wrote (answer (laid fs)) (midOf k (length t - k) t) (writtenSays r) v)
+    (place : k ≡ 4)
     (room : 4 + size (widths fs) ≤ length s) where
-  fits : m + length (laid fs) ≤ length t
+  fits : k + length (laid fs) ≤ length t
   fits =
       let same : length t ≡ length s = rw (p .left) (length-sets s 0 (laid (header seq SUCCESS a))) in
-      omega (arith, header-place seq SUCCESS a p, laid-counted fs)
+      omega (arith, place, laid-counted fs)
 
   told : writtenSays r ≡ answer (length (laid fs))
-  told = part-told m t (laid fs) fits w
+  told = part-told k t (laid fs) fits w
 
-  -- the writer answers, and the reply's length is a number that the machine has
-  pub described-told : T (ltb (4 + size (widths fs)) (2 ^ 64)) → (n : ℕ) × (writtenSays r ≡ answer n) × (m + n < 2 ^ 64)
-  described-told h =
-      let sum : m + length (laid fs) ≡ 4 + size (widths fs) = omega (arith, header-place seq SUCCESS a p, laid-counted fs) in
-      (length (laid fs), told, rw sum (ltb→lt _ _ h))
+  here : m ≡ k
+  here = omega (arith, place, header-place seq SUCCESS a p)
 
   -- and the reply is the header and the descriptor
   pub described-writes :
       {q : Outcome ℕ}
       → q ≡ mapped (λ n. m + n) (writtenSays r)
-      → Wrote (answer (laid (header seq SUCCESS a ++ fs))) s q (putMid m (length t - m) t v)
+      → Wrote (answer (laid (header seq SUCCESS a ++ fs))) s q (putMid k (length t - k) t v)
   unfolding header size mapped
   described-writes {q} e =
-      let long : q ≡ answer (m + length (laid fs)) = rw told at e in
-      rw long (run-writes (run-put-both p (part-put m t fs fits (rw told at w))) (omega (arith, room)))
+      let long : q ≡ answer (k + length (laid fs)) = rw (told, here) at e in
+      let front : FieldsPut (header seq SUCCESS a) s 0 k t = rw here at p in
+      rw long (run-writes (run-put-both front (part-put k t fs fits (rw told at w))) (omega (arith, room)))

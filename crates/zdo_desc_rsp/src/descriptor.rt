@@ -32,7 +32,7 @@ pub fn write_header(out: &mut [u8], seq: u8, status: u8, nwk_addr: ShortAddress)
 
 // What a reply comes to whose later part, from a place on, came to `written`: the length of the whole.
 fn whole(at: usize, written: Written) -> Written
-    requires { ⌜ ((n : ℕ) × (writtenSays written ≡ answer n) × (at + n < 2 ^ 64)) ⌝ }
+    requires { ⌜ ((n : ℕ) → writtenSays written ≡ answer n → at + n < 2 ^ 64) ⌝ }
     ensures { λ r. ⌜ writtenSays r ≡ mapped (λ n. at + n) (writtenSays written) ⌝ }
 {
     match written {

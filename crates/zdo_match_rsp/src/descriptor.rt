@@ -26,7 +26,7 @@ fn count_byte(count: usize) -> u8
     count as u8
 }
 
-// Puts a list of endpoints at a place, one byte each.
+// Puts a list of endpoints at a place, one byte each, and tells the place behind them as a sum that callers can add to.
 fn write_endpoints(out: &mut [u8], at: usize, endpoints: &[u8]) -> usize
     requires { ⌜ at + length (now endpoints) ≤ length (now out) ⌝ }
     ensures { λ r. ⌜ (r ≡ at + length (now (endpoints .entry))) × FieldsPut (map byte (now (endpoints .entry))) (now (out .entry)) at r (now (out .exit)) ⌝ }

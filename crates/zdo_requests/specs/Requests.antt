@@ -1,5 +1,5 @@
--- The ten requests, from bytes to fields, and the node request as it is written (document 01, "Payloads"; 2.4.3). A payload that is shorter than its fields and lists
--- is refusal 3, and bytes behind them are ignored.
+-- The ten requests, from bytes to fields, and the node request as it is written (document 01, "Payloads"; 2.4.3). A payload that
+-- is shorter than its fields and lists is refusal 3, and bytes behind them are ignored.
 use Prim.Native.Nat.{ℕ, _+_}
 use mathlib.Core.Bool.{cond}
 use mathlib.Core.List.{List, [], _∷_}

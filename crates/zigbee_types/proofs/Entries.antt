@@ -1,5 +1,5 @@
--- Entries of a list that are put one behind the other, behind their count: for a loop that puts one in each turn. Each law is over
--- the width of an entry. Assumes nothing.
+-- Entries of a list that are put one behind the other, with their count before them or not: for a loop that puts one in each turn.
+-- Each law is over the width of an entry. Assumes nothing.
 use Prim.Native.Nat.{ℕ, _+_, _*_, _≤_, _<_}
 use native.Mathlib.Nat.{mul-zero, mul-add, mul-one}
 use native.Mathlib.Numerals.{add-one}

@@ -13,7 +13,7 @@ unfolding size powerDescriptor
 told c κs =
     let lent = c .before .before in
     let front = lent .before .before .before .before in
-    described-told _ _ _ _ (front .write-header .ensures) (lent .write .ensures) (front .before .before .if1 .left) tt
+    described-told _ _ (header-place _ _ _ (front .write-header .ensures)) (lent .write .ensures) tt
 
 pub power-desc-rsp-spec : {M : Type 1} → statement M
 unfolding size powerDescriptor powerDescRsp
@@ -28,4 +28,4 @@ power-desc-rsp-spec =
     (λ c κs. search needs)  -- write-requires
     told  -- whole-requires
     (λ c. search needs)  -- same-length
-    (λ c. search (needs, described-writes)))  -- returns-2
+    (λ c. search (needs, header-place, described-writes)))  -- returns-2

@@ -20,7 +20,7 @@ answers c = search laws
 pub match-desc-rsp-error-spec : {M : Type 1} → statement M
 match-desc-rsp-error-spec =
     tie.close
-    (tie.spec full
+    (tie.spec full  -- returns
     (λ c κs. search needs)  -- write-u8-requires
     (λ c κs. search needs)  -- code-requires
     (λ c κs. search needs)  -- write-u8-requires-2
