@@ -24,7 +24,7 @@ use zigbee_types::IeeeAddress;
 use zigbee_types::ShortAddress;
 use zigbee_types::Written;
 
-// A reply that is written. Those of the last name report an error of discovery.
+// A reply that is written. Those of the last case report an error of discovery.
 enum Reply {
     NodeDesc,
     PowerDesc,
@@ -171,8 +171,8 @@ fn write_match(line: &[u8], seq: u8, address: ShortAddress, buffer: &mut [u8]) -
     match_desc_rsp(seq, address, &endpoints[0..count], buffer)
 }
 
-// Writes a reply that reports an error: behind the question's name stand NUMBER REASON, in all but the last two SHORT, and
-// BUFFER.
+// Writes a reply that reports an error: behind the question's name stand NUMBER REASON, then IEEE SHORT of an address reply, nothing
+// of a match reply, SHORT of the others, and BUFFER.
 fn write_error(line: &[u8], error: ErrorReply, seq: u8, buffer: &mut [u8]) -> Written {
     let why = discovery_error(words::u8_in(line, 2));
     let address = ShortAddress(words::u16_in(line, 3));
