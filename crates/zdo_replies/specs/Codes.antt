@@ -8,7 +8,7 @@ use Rattle.zdo_replies.specs.declared.descriptor.DiscoveryError.the-vari
 use Rattle.zdo_replies.specs.declared.management.NlmeLeaveStatus.{NlmeLeaveStatus}
 use Rattle.zdo_replies.specs.declared.management.NlmeLeaveStatus.the-variants as leave
 
--- 2.4.4.3.2 and 2.4.4.3.3
+-- of a bind or an unbind (2.4.4.3.2, 2.4.4.3.3)
 abbrev pub bindCode : BindStatus → ℕ
 bindCode bind.Success = SUCCESS
 bindCode bind.InvalidEndpoint = INVALID-EP
@@ -16,7 +16,7 @@ bindCode bind.TableFull = TABLE-FULL
 bindCode bind.NoEntry = NO-ENTRY
 bindCode bind.NotSupported = NOT-SUPPORTED
 
--- 2.4.4.2
+-- of a discovery request that cannot be answered with data (2.4.4.2)
 abbrev pub discoveryCode : DiscoveryError → ℕ
 discoveryCode error.InvalidRequestType = INV-REQUESTTYPE
 discoveryCode error.DeviceNotFound = DEVICE-NOT-FOUND

@@ -29,38 +29,47 @@ use Rattle.zdo_requests.specs.declared.descriptor.MgmtLeaveReq.{MgmtLeav
 use Rattle.zdo_requests.specs.declared.descriptor.MgmtLeaveReqRead.{MgmtLeaveReqRead}
 use Rattle.zdo_requests.specs.declared.descriptor.MgmtLeaveReqRead.the-variants as leave
 
+-- of `parse_nwk_addr_req`
 unfoldable pub nwkAddrReqSays : NwkAddrReqRead → Outcome NwkAddrReq
 nwkAddrReqSays (nwk.Request q) = answer q
 nwkAddrReqSays (nwk.Refused why) = refusal (refusalNumber why)
 
+-- of `parse_ieee_addr_req`
 unfoldable pub ieeeAddrReqSays : IeeeAddrReqRead → Outcome IeeeAddrReq
 ieeeAddrReqSays (ieee.Request q) = answer q
 ieeeAddrReqSays (ieee.Refused why) = refusal (refusalNumber why)
 
+-- of `parse_addr_of_interest_req`
 unfoldable pub addrOfInterestReqSays : AddrOfInterestReqRead → Outcome AddrOfInterestReq
 addrOfInterestReqSays (interest.Request q) = answer q
 addrOfInterestReqSays (interest.Refused why) = refusal (refusalNumber why)
 
+-- of `parse_addr_of_interest`: the address that the request is about
 unfoldable pub addrOfInterestSays : AddrOfInterestRead → Outcome ShortAddress
 addrOfInterestSays (address.Address x) = answer x
 addrOfInterestSays (address.Refused why) = refusal (refusalNumber why)
 
+-- of `parse_simple_desc_req`
 unfoldable pub simpleDescReqSays : SimpleDescReqRead → Outcome SimpleDescReq
 simpleDescReqSays (simple.Request q) = answer q
 simpleDescReqSays (simple.Refused why) = refusal (refusalNumber why)
 
+-- of `parse_match_desc_req`
 unfoldable pub matchDescReqSays : MatchDescReqRead → Outcome MatchDescReq
 matchDescReqSays (match.Request q) = answer q
 matchDescReqSays (match.Refused why) = refusal (refusalNumber why)
 
+-- of the reader of a bind request's destination
 unfoldable pub destinationSays : DestinationRead → Outcome BindReqDestination
 destinationSays (destination.Destination d) = answer d
 destinationSays (destination.Refused why) = refusal (refusalNumber why)
 
+-- of `parse_bind_req`
 unfoldable pub bindReqSays : BindReqRead → Outcome BindReq
 bindReqSays (bind.Request q) = answer q
 bindReqSays (bind.Refused why) = refusal (refusalNumber why)
 
+-- of `parse_mgmt_leave_req`
 unfoldable pub mgmtLeaveReqSays : MgmtLeaveReqRead → Outcome MgmtLeaveReq
 mgmtLeaveReqSays (leave.Request q) = answer q
 mgmtLeaveReqSays (leave.Refused why) = refusal (refusalNumber why)
