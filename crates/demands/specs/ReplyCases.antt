@@ -64,8 +64,8 @@ SimpleReplies =
           ∷ [];
     }
 
--- single, extended, and an error; then of three children those from the second on, and those from the fourth on, of which there are
--- none (docs/DECISIONS.md: document 01 has no children)
+-- single, extended, and an error; then of three children those from index 1 on, and those from index 4 on, of which there are none
+-- (docs/DECISIONS.md: document 01 has no children)
 unfoldable pub AddressReplies : Case
 AddressReplies =
     let children : List ShortAddress = shortOf 0xC2C1 ∷ shortOf 0xC4C3 ∷ shortOf 0xC6C5 ∷ [] in
