@@ -17,8 +17,8 @@ use Rattle.zdo_requests.specs.Requests.{nwkAddrReqIn, ieeeAddrReqIn, addrOfInte
 use Rattle.zdo_replies.specs.Replies.{header, nodeDescRsp, powerDescRsp, descriptorRspError, endpointList, listRsp, emptyRsp, matchErrorFields, matchDescRspError, describedRsp, addrHeader, addrRspSingle, addrRspExtended, addrRsp, statusFields, statusRsp}
 use Rattle.zdo_readers.specs.Readers.{headerWidths, headerIn, nodeIn, nodeReplyIn, powerIn, powerReplyIn, serverMaskIn, nodeDescRspIn, stackRevisionOf, listReplyIn, matchErrorWidths, matchReplyInAs, matchReplyIn, shifted, shiftedFields, simpleWithin, simpleIn, simpleReplyIn, associatedIn, addrWidths, addrReplyIn, statusWidths, statusReplyIn}
 use Rattle.zdo_device.specs.Tables.{used, endpointRecord, supportsEndpoint, recordFits, goodRecords, goodDevice, endpointOf, resolvedIn, clustersOf, endpointClusters}
-use Rattle.zdo_device.specs.Matching.{wanted, profileMatches, shared, matches, matchList, goodPlaces, matchedRecords, matchingEndpoints}
-use Rattle.zdo_device.specs.TableReplies.{activeRspOf, activeRecords, activeEpRsp, simpleRspOf, simpleDescRsp}
+use Rattle.zdo_matching.specs.Matching.{wanted, profileMatches, shared, matches, matchList, goodPlaces, matchedRecords, matchingEndpoints}
+use Rattle.zdo_device_rsp.specs.TableReplies.{activeRspOf, activeRecords, activeEpRsp, simpleRspOf, simpleDescRsp}
 use Rattle.zdo_dispatcher.specs.Host.{asking, goodHost, resolved}
 use Rattle.zdo_dispatcher.specs.Discovery.{ourAddress, onNwkAddr, onIeeeAddr, notOurs, about, onNode, onPower, onSimple, onActive, onMatch, discovery, discovered}
 use Rattle.zdo_dispatcher.specs.Answers.{linkStepAs, linkStep, onLink, byCluster, answered, tableAfter, bufferAfter, toldOf, run, runTable}

@@ -8,8 +8,8 @@ use Rattle.zigbee_types.specs.Addresses.{shortOf}
 use Rattle.zdo_requests.specs.declared.descriptor.MatchDescReq.{MatchDescReq}
 use Rattle.zdo_replies.specs.Replies.{listRsp}
 use Rattle.zdo_device.specs.Tables.{endpointClusters}
-use Rattle.zdo_device.specs.Matching.{matchedRecords, matchingEndpoints}
-use Rattle.zdo_device.specs.TableReplies.{activeRecords, activeEpRsp, simpleDescRsp}
+use Rattle.zdo_matching.specs.Matching.{matchedRecords, matchingEndpoints}
+use Rattle.zdo_device_rsp.specs.TableReplies.{activeRecords, activeEpRsp, simpleDescRsp}
 use Rattle.zdo_device.specs.declared.descriptor.DeviceDescriptorConfig.{DeviceDescriptorConfig}
 use Rattle.zdo_device.specs.declared.descriptor.Side.the-variants.{Input, Output}
 use Rattle.demands.specs.OurDevice.{endpoint1, endpoint2, ourPools, ourDescriptors, endpointAt, deviceOf}

@@ -3,13 +3,15 @@
 use Prim.Native.Nat.{ℕ, _+_}
 use mathlib.Core.Bool.{Bool, true, false, _&&_, cond}
 use mathlib.Core.List.{List, [], map}
-use mathlib.Core.Option.{Option}
+use mathlib.Core.Option.{Option, none, some}
 use lib.Dec.{eqb, leb}
 use lib.ListN.{length, take}
 use Rattle.zigbee_types.specs.Lists.{part, all, find, option}
 use Rattle.simple_descriptor.specs.SimpleDescriptor.{Endpoint}
 use Rattle.zdo_device.specs.declared.descriptor.EndpointDescriptor.{EndpointDescriptor}
 use Rattle.zdo_device.specs.declared.descriptor.DeviceDescriptorConfig.{DeviceDescriptorConfig}
+use Rattle.zdo_device.specs.declared.descriptor.OptionEndpoint.{OptionEndpoint}
+use Rattle.zdo_device.specs.declared.descriptor.OptionEndpoint.the-variants.{Some, None}
 use Rattle.zdo_device.specs.declared.descriptor.Side.{Side}
 use Rattle.zdo_device.specs.declared.descriptor.Side.the-variants.{Input, Output}
 
@@ -17,6 +19,10 @@ use Rattle.zdo_device.specs.declared.descriptor.Side.the-variants.{Input
 pub record Pools : Type 0 where
   pub inputs : List ℕ
   pub outputs : List ℕ
+
+-- the pools that have these
+abbrev pub pools : List ℕ → List ℕ → Pools
+pools inputs outputs = record { inputs = inputs; outputs = outputs }
 
 -- ---- records
 
@@ -28,6 +34,11 @@ used d = take (d .«endpoint_count») (d .endpoints)
 unfoldable pub endpointRecord : DeviceDescriptorConfig → ℕ → Option EndpointDescriptor
 endpointRecord d n = find (λ e. eqb (e .endpoint) n) (used d)
 
+-- what `endpoint` answers: a record, or none
+unfoldable pub found : OptionEndpoint → Option EndpointDescriptor
+found (Some e) = some e
+found None = none
+
 -- `supports_endpoint`: is there one?
 unfoldable pub supportsEndpoint : DeviceDescriptorConfig → ℕ → Bool
 supportsEndpoint d n = option false (λ e. true) (endpointRecord d n)
@@ -38,9 +49,13 @@ supportsEndpoint d n = option false (λ e. true) (endpointRecord d n)
 unfoldable pub recordFits : Pools → EndpointDescriptor → Bool
 recordFits p e = leb (e .«input_start» + e .«input_count») (length (p .inputs)) && leb (e .«output_start» + e .«output_count») (length (p .outputs))
 
--- at most 32 records, at most 512 clusters in each pool, and each record within its pools
+-- at most 32 records, and at most 512 clusters in each pool
+unfoldable pub goodSizes : ℕ → ℕ → ℕ → Bool
+goodSizes records inputs outputs = leb records 32 && leb inputs 512 && leb outputs 512
+
+-- so many, and each record within its pools
 unfoldable pub goodRecords : Pools → List EndpointDescriptor → Bool
-goodRecords p records = leb (length records) 32 && leb (length (p .inputs)) 512 && leb (length (p .outputs)) 512 && all (recordFits p) records
+goodRecords p records = goodSizes (length records) (length (p .inputs)) (length (p .outputs)) && all (recordFits p) records
 
 -- the same of a device: its count is at most 32, and the records in use are good
 unfoldable pub goodDevice : Pools → DeviceDescriptorConfig → Bool

@@ -19,8 +19,8 @@ use Rattle.zdo_requests.specs.declared.descriptor.SimpleDescReq.{SimpleDescReq}
 use Rattle.zdo_requests.specs.declared.descriptor.MatchDescReq.{MatchDescReq}
 use Rattle.zdo_replies.specs.Replies.{nodeDescRsp, powerDescRsp, descriptorRspError, listRsp, emptyRsp, matchDescRspError, addrRsp, addrRspSingle}
 use Rattle.zdo_device.specs.Tables.{used}
-use Rattle.zdo_device.specs.Matching.{wanted, matchList}
-use Rattle.zdo_device.specs.TableReplies.{activeRspOf, simpleRspOf}
+use Rattle.zdo_matching.specs.Matching.{wanted, matchList}
+use Rattle.zdo_device_rsp.specs.TableReplies.{activeRspOf, simpleRspOf}
 use Rattle.zdo_dispatcher.specs.Host.{Host, Asked, resolved}
 
 -- ---- addresses

@@ -9,4 +9,5 @@ pub mod Parts
 pub mod Bits
 pub mod Named
 pub mod Elements
+pub mod Scans
 pub mod OneOutcome

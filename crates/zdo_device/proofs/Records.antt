@@ -1,0 +1,172 @@
+-- The records in use, for a loop that goes through them, and what a check of them says. Assumes nothing.
+use Prim.Native.Nat.{ℕ, _+_, _≤_, _<_, min}
+use native.Mathlib.Numerals.{add-one}
+use native.Mathlib.Omega.{arith}
+use mathlib.Core.Path.{_≡_, refl, sym, _∙_}
+use mathlib.Core.Bool.{Bool, true, false, _&&_, not, and-eq-true-iff}
+use mathlib.Core.List.{List, [], _∷_, _++_}
+use lib.Dec.{eqb, leb}
+use lib.ListN.{length, getD, take, drop, drop-of-length-le, length-take}
+use lib.Seq.{drop-cons, take-suc, getD-take}
+use borrow.Author.Tests.{eq-eqb, ne-eqb, leb-true, le-leb, lt-leb}
+use Rattle.zigbee_types.specs.Lists.{all, find}
+use Rattle.zigbee_types.proofs.Scans.{all-left, all-here, all-next, all-end, find-here, find-next, find-end, find-all, denied, granted}
+use Rattle.zdo_device.specs.Tables.{Pools, used, endpointRecord, found, recordFits, goodSizes, goodRecords, goodDevice}
+use Rattle.zdo_device.specs.declared.descriptor.EndpointDescriptor.{EndpointDescriptor}
+use Rattle.zdo_device.specs.declared.descriptor.DeviceDescriptorConfig.{DeviceDescriptorConfig}
+use Rattle.zdo_device.specs.declared.descriptor.OptionEndpoint.{OptionEndpoint}
+use Rattle.zdo_device.specs.declared.descriptor.OptionEndpoint.the-variants.{Some, None}
+
+module _ (d : DeviceDescriptorConfig) where
+  -- there are as many as the count says, and at most the thirty-two
+  pub used-counted : length (d .endpoints) ≡ 32 → length (used d) ≡ min (d .«endpoint_count») 32
+  unfolding used
+  used-counted e = rw (length-take, e)
+
+  module _ (i : ℕ) where
+    -- the next one, and those behind it
+    pub used-next :
+        (z : EndpointDescriptor) → i < length (used d) → drop i (used d) ≡ getD (d .endpoints) i z ∷ drop (i + 1) (used d)
+    unfolding used
+    used-next z h =
+        let inside : i < d .«endpoint_count» = omega (arith, rw length-take at h) in
+        rw (drop-cons (take (d .«endpoint_count») (d .endpoints)) i z h, getD-take (d .«endpoint_count») (d .endpoints) i z inside, add-one)
+
+    -- one more than the first i
+    pub used-done :
+        (z : EndpointDescriptor) → i < length (used d) → take (i + 1) (used d) ≡ take i (used d) ++ (getD (d .endpoints) i z ∷ [])
+    unfolding used
+    used-done z h =
+        let inside : i < d .«endpoint_count» = omega (arith, rw length-take at h) in
+        rw (add-one, take-suc (take (d .«endpoint_count») (d .endpoints)) i z h, getD-take (d .«endpoint_count») (d .endpoints) i z inside)
+
+    -- where all pass a test, so does the next one
+    pub used-all :
+        (p : EndpointDescriptor → Bool) (z : EndpointDescriptor) → i < length (used d) → all p (used d) ≡ true → p (getD (d .endpoints) i z) ≡ true
+    used-all p z h t = all-left p i (used d) (used-next z h) t
+
+    -- none is left
+    pub used-end : length (used d) ≤ i → drop i (used d) ≡ []
+    used-end h = drop-of-length-le (used d) h
+
+-- ---- the search for a number
+
+-- the first i of n records were passed by: none of them has the number
+pub record Sought (d : DeviceDescriptorConfig) (number n i : ℕ) : Type 0 where
+  pub within : i ≤ n
+  pub few : n ≤ 32
+  pub counted : length (used d) ≡ n
+  pub left : endpointRecord d number ≡ find (λ e. eqb (e .endpoint) number) (drop i (used d))
+
+-- none, to begin with
+pub sought-first :
+    {d : DeviceDescriptorConfig} {number n : ℕ} → length (d .endpoints) ≡ 32 → n ≡ min (d .«endpoint_count») 32 → Sought d number n 0
+unfolding endpointRecord
+sought-first {d} e h =
+    record { within = omega arith; few = omega arith; counted = used-counted d e ∙ sym h; left = refl }
+
+module _ {d : DeviceDescriptorConfig} {number n i : ℕ} (s : Sought d number n i) where
+  module _ (z : EndpointDescriptor) (h : i < n) where
+    here : drop i (used d) ≡ getD (d .endpoints) i z ∷ drop (i + 1) (used d)
+    here = used-next d i z (rw (s .counted) h)
+
+    -- the next one has it
+    pub sought-here : getD (d .endpoints) i z .endpoint ≡ number → found (Some (getD (d .endpoints) i z)) ≡ endpointRecord d number
+    unfolding found
+    sought-here e = sym (s .left ∙ find-here _ here (eq-eqb _ _ e))
+
+    -- is passed by too
+    pub sought-next : (getD (d .endpoints) i z .endpoint ≡ number → ⊥) → Sought d number n (i + 1)
+    sought-next e =
+        record { within = omega arith; few = s .few; counted = s .counted; left = s .left ∙ find-next _ here (ne-eqb _ _ e) }
+
+  -- there is no next
+  pub sought-end : n ≤ i → found None ≡ endpointRecord d number
+  unfolding found
+  sought-end h = sym (s .left ∙ find-end _ (used-end d i (rw (s .counted) h)))
+
+-- ---- the check of the tables
+
+-- where the sizes are good, so is the number of records
+sizes-few : (n a b : ℕ) → goodSizes n a b ≡ true → n ≤ 32
+unfolding goodSizes
+sizes-few n a b g =
+    let (records, outputs) = and-eq-true-iff (leb n 32 && leb a 512) (leb b 512) .0 g in
+    leb-true n 32 (and-eq-true-iff (leb n 32) (leb a 512) .0 records .0)
+
+-- too many records or clusters
+pub sizes-bad :
+    (p : Pools) (d : DeviceDescriptorConfig) (t : Bool)
+    → length (d .endpoints) ≡ 32
+    → t ≡ goodSizes (d .«endpoint_count») (length (p .inputs)) (length (p .outputs))
+    → not t ≡ true
+    → false ≡ goodDevice p d
+unfolding goodDevice goodRecords
+sizes-bad p d t e is bad = go (leb (d .«endpoint_count») 32) refl
+  where
+    go : (few : Bool) → leb (d .«endpoint_count») 32 ≡ few → false ≡ few && (goodSizes (length (used d)) (length (p .inputs)) (length (p .outputs)) && all (recordFits p) (used d))
+    go false f = refl
+    go true f =
+        let same : length (used d) ≡ d .«endpoint_count» = omega (arith, used-counted d e, leb-true (d .«endpoint_count») 32 f) in
+        rw (same, denied is bad)
+
+-- the first i of n records fit
+pub record Checked (p : Pools) (d : DeviceDescriptorConfig) (n i : ℕ) : Type 0 where
+  pub within : i ≤ n
+  pub few : n ≤ 32
+  pub counted : length (used d) ≡ n
+  pub left : goodDevice p d ≡ all (recordFits p) (drop i (used d))
+
+-- none, to begin with
+pub checked-first :
+    (p : Pools) (d : DeviceDescriptorConfig) (t : Bool)
+    → length (d .endpoints) ≡ 32
+    → t ≡ goodSizes (d .«endpoint_count») (length (p .inputs)) (length (p .outputs))
+    → not t ≡ false
+    → Checked p d (d .«endpoint_count») 0
+unfolding goodDevice goodRecords
+checked-first p d t e is fine =
+    let sizes : goodSizes (d .«endpoint_count») (length (p .inputs)) (length (p .outputs)) ≡ true = granted is fine in
+    let few : d .«endpoint_count» ≤ 32 = sizes-few _ _ _ sizes in
+    let same : length (used d) ≡ d .«endpoint_count» = omega (arith, used-counted d e) in
+    record { within = omega arith; few = few; counted = same; left = rw (same, le-leb _ _ few, sizes) }
+
+module _ {p : Pools} {d : DeviceDescriptorConfig} {n i : ℕ} (c : Checked p d n i) where
+  module _ (z : EndpointDescriptor) (h : i < n) {t : Bool} (is : t ≡ recordFits p (getD (d .endpoints) i z)) where
+    next : drop i (used d) ≡ getD (d .endpoints) i z ∷ drop (i + 1) (used d)
+    next = used-next d i z (rw (c .counted) h)
+
+    -- the next one does not
+    pub checked-here : not t ≡ true → false ≡ goodDevice p d
+    checked-here bad = sym (c .left ∙ all-here _ next (denied is bad))
+
+    -- fits too
+    pub checked-next : not t ≡ false → Checked p d n (i + 1)
+    checked-next fine =
+        record { within = omega arith; few = c .few; counted = c .counted; left = c .left ∙ all-next _ next (granted is fine) }
+
+  -- all do
+  pub checked-end : n ≤ i → true ≡ goodDevice p d
+  checked-end h = sym (c .left ∙ all-end _ (used-end d i (rw (c .counted) h)))
+
+-- ---- good tables
+
+module _ (p : Pools) (d : DeviceDescriptorConfig) (g : goodDevice p d ≡ true) where
+  both : (leb (d .«endpoint_count») 32 ≡ true) × (goodRecords p (used d) ≡ true)
+  unfolding goodDevice
+  both = and-eq-true-iff _ _ .0 g
+
+  -- have at most 32 records
+  pub good-count : d .«endpoint_count» ≤ 32
+  good-count = leb-true _ _ (both .0)
+
+  -- all of them fit
+  pub good-fit : all (recordFits p) (used d) ≡ true
+  unfolding goodRecords
+  good-fit = and-eq-true-iff (goodSizes (length (used d)) (length (p .inputs)) (length (p .outputs))) _ .0 (both .1) .1
+
+  -- and so does the one that is found
+  pub good-found :
+      (number : ℕ) {q : OptionEndpoint} {e : EndpointDescriptor} → q ≡ Some e → found q ≡ endpointRecord d number → recordFits p e ≡ true
+  unfolding found endpointRecord
+  good-found number is f = find-all _ (recordFits p) (used d) good-fit (sym (rw is at f))

@@ -1,0 +1,159 @@
+-- The records that match, for a loop that goes through all of them, and what the tests before it refuse. Assumes nothing.
+use Prim.Native.Nat.{ℕ, _+_, _≤_, _<_}
+use native.Mathlib.Numerals.{add-one}
+use native.Mathlib.Omega.{arith}
+use mathlib.Core.Path.{_≡_, refl, sym, _∙_}
+use mathlib.Core.Bool.{Bool, true, false, _&&_, not, cond}
+use mathlib.Core.List.{List, [], _∷_, _++_, map, map-append, append-nil}
+use lib.Dec.{leb}
+use lib.ListN.{length, getD, take, set}
+use lib.Seq.{take-suc, take-all}
+use Rattle.zigbee_types.specs.Lists.{all, filter}
+use Rattle.zigbee_types.specs.Outcome.{answer, refusal, mapped, begunLength, begun, Begun}
+use Rattle.zigbee_types.specs.declared.Refusal.the-variants.{BadTables, Malformed}
+use Rattle.zigbee_types.proofs.Scans.{filter-last, denied, granted}
+use Rattle.zdo_requests.specs.declared.descriptor.MatchDescReq.{MatchDescReq}
+use Rattle.zdo_device.specs.Tables.{Pools, used, recordFits, goodRecords, goodDevice, endpointOf, resolvedIn}
+use Rattle.zdo_device.specs.declared.descriptor.EndpointDescriptor.{EndpointDescriptor}
+use Rattle.zdo_device.specs.declared.descriptor.DeviceDescriptorConfig.{DeviceDescriptorConfig}
+use Rattle.zdo_device.proofs.Records.{used-counted, used-done, used-all, good-count, good-fit}
+use Rattle.zdo_matching.specs.Matching.{Wanted, wanted, matches, matchList, goodPlaces, matchedRecords, matchingEndpoints}
+use Rattle.zdo_matching.specs.Answers.{matchingSays}
+use Rattle.zdo_matching.specs.declared.descriptor.Matched.{Matched}
+use Rattle.zdo_matching.specs.declared.descriptor.Matching.the-variants as matching
+use Rattle.zdo_matching.proofs.Filled.{Filled, filled-none, filled-length, filled-more, filled-full, filled-begun}
+
+-- ---- the loop
+
+-- among the first i of n records in use, as many as match were written, or as many as there was room for
+pub record Found (w : Wanted) (p : Pools) (d : DeviceDescriptorConfig) (n i : ℕ) (before : List ℕ) (k : ℕ) (after : List ℕ) : Type 0 where
+  pub within : i ≤ n
+  pub few : n ≤ 32
+  pub counted : length (used d) ≡ n
+  pub fit : all (recordFits p) (used d) ≡ true
+  pub same : length after ≡ length before
+  pub filled : Filled (matchList w (resolvedIn p (take i (used d)))) before k after
+
+-- none, to begin with
+pub found-first :
+    (w : Wanted) {p : Pools} {d : DeviceDescriptorConfig} {before : List ℕ}
+    → length (d .endpoints) ≡ 32
+    → goodDevice p d ≡ true
+    → Found w p d (d .«endpoint_count») 0 before 0 before
+unfolding matchList resolvedIn filter
+found-first w {p} {d} {before} e g =
+    let few = good-count p d g in
+    record {
+      within = omega arith;
+      few = few;
+      counted = omega (arith, used-counted d e);
+      fit = good-fit p d g;
+      same = refl;
+      filled = filled-none before;
+    }
+
+module _ {w : Wanted} {p : Pools} {d : DeviceDescriptorConfig} {n i k : ℕ} {before after : List ℕ} (f : Found w p d n i before k after) where
+  -- all of them
+  pub found-end : n ≤ i → Begun (answer (matchList w (resolvedIn p (used d)))) before (answer k) after
+  found-end h = filled-begun (rw (take-all i (used d) (rw (f .counted) h)) at (f .filled))
+
+  module _ (z : EndpointDescriptor) (h : i < n) where
+    -- the next one fits
+    pub found-fits : recordFits p (getD (d .endpoints) i z) ≡ true
+    found-fits = used-all d i (recordFits p) z (rw (f .counted) h) (f .fit)
+
+    -- what it adds
+    more :
+        matchList w (resolvedIn p (take (i + 1) (used d)))
+        ≡ matchList w (resolvedIn p (take i (used d))) ++ matchList w (endpointOf p (getD (d .endpoints) i z) ∷ [])
+    unfolding matchList resolvedIn
+    more = rw (used-done d i z (rw (f .counted) h), map-append, filter-last, map-append)
+
+    module _ {t : Bool} (is : t ≡ matches w (endpointOf p (getD (d .endpoints) i z))) where
+      one : (b : Bool) → t ≡ b → matchList w (endpointOf p (getD (d .endpoints) i z) ∷ []) ≡ cond b (getD (d .endpoints) i z .endpoint ∷ []) []
+      unfolding matchList filter endpointOf
+      one true e = rw (← is, e)
+      one false e = rw (← is, e)
+
+      -- it does not match
+      pub found-skip : t ≡ false → Found w p d n (i + 1) before k after
+      found-skip e =
+          record {
+            within = omega arith;
+            few = f .few;
+            counted = f .counted;
+            fit = f .fit;
+            same = f .same;
+            filled = rw (more, one false e, append-nil) (f .filled);
+          }
+
+      -- it does, and is written
+      pub found-more : t ≡ true → k < length after → Found w p d n (i + 1) before (k + 1) (set after k (getD (d .endpoints) i z .endpoint))
+      found-more e r =
+          let next = filled-more (f .filled) (getD (d .endpoints) i z .endpoint) (rw (f .same) at r) in
+          record {
+            within = omega arith;
+            few = f .few;
+            counted = f .counted;
+            fit = f .fit;
+            same = filled-length next;
+            filled = rw (more, one true e) next;
+          }
+
+      -- it does, and there is no room
+      pub found-full : t ≡ true → length after ≤ k → Found w p d n (i + 1) before k after
+      found-full e r =
+          record {
+            within = omega arith;
+            few = f .few;
+            counted = f .counted;
+            fit = f .fit;
+            same = f .same;
+            filled = rw (more, one true e) (filled-full (f .filled) (getD (d .endpoints) i z .endpoint) (rw (f .same) at r));
+          }
+
+-- ---- the tests before it
+
+-- a test of the count, and then of the records, is a test of the device
+device-tested :
+    (p : Pools) (d : DeviceDescriptorConfig) (q : MatchDescReq) (payload : List ℕ)
+    → matchingEndpoints p d q payload
+    ≡ cond (goodDevice p d) (cond (goodPlaces q payload) (answer (matchList (wanted q payload) (resolvedIn p (used d)))) (refusal 3)) (refusal 1)
+unfolding matchingEndpoints matchedRecords goodDevice
+device-tested p d q payload =
+    elim (leb (d .«endpoint_count») 32) as (λ t. cond t (cond (goodRecords p (used d)) (cond (goodPlaces q payload) (answer (matchList (wanted q payload) (resolvedIn p (used d)))) (refusal 3)) (refusal 1)) (refusal 1) ≡ cond (t && goodRecords p (used d)) (cond (goodPlaces q payload) (answer (matchList (wanted q payload) (resolvedIn p (used d)))) (refusal 3)) (refusal 1)) [
+      | true ↦ refl
+      | false ↦ refl
+    ]
+
+-- a refusal leaves the buffer as it was
+begun-refused : (n : ℕ) (before : List ℕ) → Begun (refusal n) before (refusal n) before
+unfolding begunLength begun mapped
+begun-refused n before = record { said = refl; left = refl }
+
+module _
+    (p : Pools)
+    (d : DeviceDescriptorConfig)
+    (q : MatchDescReq)
+    (payload before : List ℕ)
+    {t : Bool}
+    (is : t ≡ goodDevice p d) where
+  -- refusal 1
+  pub refused-tables : not t ≡ true → Begun (matchingEndpoints p d q payload) before (matchingSays (matching.Refused BadTables)) before
+  unfolding matchingSays
+  refused-tables bad = rw (device-tested p d q payload, denied is bad) (begun-refused 1 before)
+
+  module _ (fine : not t ≡ false) {u : Bool} (places : u ≡ goodPlaces q payload) where
+    -- refusal 3
+    pub refused-places : not u ≡ true → Begun (matchingEndpoints p d q payload) before (matchingSays (matching.Refused Malformed)) before
+    unfolding matchingSays
+    refused-places bad = rw (device-tested p d q payload, granted is fine, denied places bad) (begun-refused 3 before)
+
+    -- otherwise what is found
+    pub found-matched :
+        not u ≡ false
+        → (m : Matched) {after : List ℕ}
+        → Begun (answer (matchList (wanted q payload) (resolvedIn p (used d)))) before (answer (m .written)) after
+        → Begun (matchingEndpoints p d q payload) before (matchingSays (matching.Matched m)) after
+    unfolding matchingSays
+    found-matched good m h = rw (device-tested p d q payload, granted is fine, granted places good) h

@@ -1,0 +1,4 @@
+pub mod Shared
+pub mod Matches
+pub mod Filled
+pub mod Found
