@@ -96,7 +96,7 @@ pub fn descriptor_rsp_error(
 // ---- active and simple
 
 // Builds a reply that carries a zero in place of its list or descriptor.
-fn empty_rsp(seq: u8, status: u8, nwk_addr: ShortAddress, out: &mut [u8]) -> Written
+pub fn empty_rsp(seq: u8, status: u8, nwk_addr: ShortAddress, out: &mut [u8]) -> Written
     ensures { λ r. ⌜ Wrote (emptyRsp seq status «nwk_addr») (now (out .entry)) (writtenSays r) (now (out .exit)) ⌝ }
 {
     if out.len() < 5 {

@@ -4,11 +4,11 @@ use native.Mathlib.Numerals.{add-one}
 use native.Mathlib.Omega.{arith}
 use mathlib.Core.Path.{_≡_, refl, sym, _∙_}
 use mathlib.Core.Bool.{Bool, true, false, _&&_, not, and-eq-true-iff}
-use mathlib.Core.List.{List, [], _∷_, _++_}
+use mathlib.Core.List.{[], _∷_, _++_}
 use lib.Dec.{eqb, leb}
 use lib.ListN.{length, getD, take, drop, drop-of-length-le, length-take}
 use lib.Seq.{drop-cons, take-suc, getD-take}
-use borrow.Author.Tests.{eq-eqb, ne-eqb, leb-true, le-leb, lt-leb}
+use borrow.Author.Tests.{eq-eqb, ne-eqb, leb-true, le-leb}
 use Rattle.zigbee_types.specs.Lists.{all, find}
 use Rattle.zigbee_types.proofs.Scans.{all-left, all-here, all-next, all-end, find-here, find-next, find-end, find-all, denied, granted}
 use Rattle.zdo_device.specs.Tables.{Pools, used, endpointRecord, found, recordFits, goodSizes, goodRecords, goodDevice}
@@ -39,6 +39,11 @@ module _ (d : DeviceDescriptorConfig) where
     used-done z h =
         let inside : i < d .«endpoint_count» = omega (arith, rw length-take at h) in
         rw (add-one, take-suc (take (d .«endpoint_count») (d .endpoints)) i z h, getD-take (d .«endpoint_count») (d .endpoints) i z inside)
+
+    -- the next one is the one at its place
+    pub used-at : (z : EndpointDescriptor) → i < length (used d) → getD (used d) i z ≡ getD (d .endpoints) i z
+    unfolding used
+    used-at z h = getD-take (d .«endpoint_count») (d .endpoints) i z (omega (arith, rw length-take at h))
 
     -- where all pass a test, so does the next one
     pub used-all :

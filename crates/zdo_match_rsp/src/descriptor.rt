@@ -1,4 +1,4 @@
-// Match replies (000).
+// Replies that carry a list, and the match reply among them (000).
 use byte::write_u8;
 use zdo_desc_rsp::descriptor::write_header;
 use zdo_replies::descriptor::DiscoveryError;
@@ -26,32 +26,40 @@ fn count_byte(count: usize) -> u8
     count as u8
 }
 
-// Puts a list of endpoints at a place, one byte each, and tells the place behind them as a sum that callers can add to.
-fn write_endpoints(out: &mut [u8], at: usize, endpoints: &[u8]) -> usize
-    requires { ⌜ at + length (now endpoints) ≤ length (now out) ⌝ }
-    ensures { λ r. ⌜ (r ≡ at + length (now (endpoints .entry))) × FieldsPut (map byte (now (endpoints .entry))) (now (out .entry)) at r (now (out .exit)) ⌝ }
+// Puts bytes at a place, one behind the other, and tells the place behind them as a sum that callers can add to.
+fn append(out: &mut [u8], at: usize, bytes: &[u8]) -> usize
+    requires { ⌜ at + length (now bytes) ≤ length (now out) ⌝ }
+    ensures { λ r. ⌜ (r ≡ at + length (now (bytes .entry))) × FieldsPut (map byte (now (bytes .entry))) (now (out .entry)) at r (now (out .exit)) ⌝ }
 {
     let mut at = at;
     let mut i: usize = 0;
-    while i < endpoints.len() {
-        at = write_u8(out, at, endpoints[i]);
+    while i < bytes.len() {
+        at = write_u8(out, at, bytes[i]);
         i += 1;
     }
     at
 }
 
-// Builds a Match_Desc_rsp (2.4.4.2.7): seq, status, NWKAddrOfInterest, MatchLength, MatchList. Given more than 255 endpoints it
-// writes 255 as MatchLength, and all of them. Too short a buffer is refused, and nothing is written.
-pub fn match_desc_rsp(seq: u8, nwk_addr: ShortAddress, matches: &[u8], out: &mut [u8]) -> Written
-    ensures { λ r. ⌜ Wrote (listRsp seq «nwk_addr» (now (matches .entry))) (now (out .entry)) (writtenSays r) (now (out .exit)) ⌝ }
+// Builds a reply that carries a list of bytes and before it how many there are: the endpoints of a Match_Desc_rsp, or the descriptor
+// of a Simple_Desc_rsp. Given more than 255 it writes 255 as the count, and all of them. Too short a buffer is refused, and nothing is
+// written.
+pub fn list_rsp(seq: u8, nwk_addr: ShortAddress, list: &[u8], out: &mut [u8]) -> Written
+    ensures { λ r. ⌜ Wrote (listRsp seq «nwk_addr» (now (list .entry))) (now (out .entry)) (writtenSays r) (now (out .exit)) ⌝ }
 {
-    if out.len() < 5 + matches.len() {
+    if out.len() < 5 + list.len() {
         return Written::Refused(Refusal::ShortBuffer);
     }
     let at = write_header(out, seq, STATUS_SUCCESS, nwk_addr);
-    let at = write_u8(out, at, count_byte(matches.len()));
-    let at = write_endpoints(out, at, matches);
+    let at = write_u8(out, at, count_byte(list.len()));
+    let at = append(out, at, list);
     Written::Length(at)
+}
+
+// Builds a Match_Desc_rsp (2.4.4.2.7): seq, status, NWKAddrOfInterest, MatchLength, MatchList.
+pub fn match_desc_rsp(seq: u8, nwk_addr: ShortAddress, matches: &[u8], out: &mut [u8]) -> Written
+    ensures { λ r. ⌜ Wrote (listRsp seq «nwk_addr» (now (matches .entry))) (now (out .entry)) (writtenSays r) (now (out .exit)) ⌝ }
+{
+    list_rsp(seq, nwk_addr, matches, out)
 }
 
 // Builds a Match_Desc_rsp reporting an error (2.4.4.2.7): seq, status and a MatchLength of zero, without NWKAddrOfInterest.

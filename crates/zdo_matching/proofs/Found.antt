@@ -1,13 +1,12 @@
 -- The records that match, for a loop that goes through all of them, and what the tests before it refuse. Assumes nothing.
 use Prim.Native.Nat.{ℕ, _+_, _≤_, _<_}
-use native.Mathlib.Numerals.{add-one}
 use native.Mathlib.Omega.{arith}
-use mathlib.Core.Path.{_≡_, refl, sym, _∙_}
+use mathlib.Core.Path.{_≡_, refl}
 use mathlib.Core.Bool.{Bool, true, false, _&&_, not, cond}
-use mathlib.Core.List.{List, [], _∷_, _++_, map, map-append, append-nil}
+use mathlib.Core.List.{List, [], _∷_, _++_, map-append, append-nil}
 use lib.Dec.{leb}
 use lib.ListN.{length, getD, take, set}
-use lib.Seq.{take-suc, take-all}
+use lib.Seq.{take-all}
 use Rattle.zigbee_types.specs.Lists.{all, filter}
 use Rattle.zigbee_types.specs.Outcome.{answer, refusal, mapped, begunLength, begun, Begun}
 use Rattle.zigbee_types.specs.declared.Refusal.the-variants.{BadTables, Malformed}

@@ -18,6 +18,8 @@ const STATUS_DEVICE_NOT_FOUND: u8 = 0x81;
 
 const STATUS_INVALID_EP: u8 = 0x82;
 
+pub const STATUS_NOT_ACTIVE: u8 = 0x83;
+
 const STATUS_NOT_SUPPORTED: u8 = 0x84;
 
 const STATUS_NO_ENTRY: u8 = 0x88;

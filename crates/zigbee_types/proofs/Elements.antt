@@ -1,10 +1,12 @@
--- Tests of a list with one more element, a list of one element many times, and the length of an array of structs. Assumes nothing.
-use Prim.Native.Nat.{ℕ, zero, suc, _-_}
+-- Tests of a list with one more element, a list of one element many times, the length of an array of structs, and what is made of
+-- the element at a place. Assumes nothing.
+use Prim.Native.Nat.{ℕ, zero, suc, _-_, _<_}
+use native.Mathlib.Nat.{le-of-suc-le-suc, not-suc-le-zero}
 use native.Mathlib.Omega.{arith}
-use mathlib.Core.Path.{_≡_}
+use mathlib.Core.Path.{_≡_, refl}
 use mathlib.Core.Bool.{Bool, _||_, _&&_, or-false, or-assoc, and-true, and-assoc}
 use mathlib.Core.List.{List, [], _∷_, _++_, map}
-use lib.ListN.{length, drop, replicate, length-map}
+use lib.ListN.{length, getD, drop, replicate, length-map}
 use Rattle.zigbee_types.specs.Lists.{any, all}
 
 module _ {A : Type 0} where
@@ -31,3 +33,10 @@ module _ {A : Type 0} where
 -- an array of structs in a struct has as many elements as its type says
 pub length-mapped : (X Y : Type 0) (f : X → Y) (xs : List X) (n : ℕ) → length (map f xs) ≡ n → length xs ≡ n
 length-mapped X Y f xs n e = rw length-map at e
+
+-- what f makes of the element at a place stands at that place, whatever is read past the end
+pub map-at :
+    {X Y : Type 0} (f : X → Y) (xs : List X) (i : ℕ) (z : X) (w : Y) → i < length xs → getD (map f xs) i w ≡ f (getD xs i z)
+map-at f [] i z w h = absurd (not-suc-le-zero h)
+map-at f (x ∷ xs) zero z w h = refl
+map-at f (x ∷ xs) (suc i) z w h = map-at f xs i z w (le-of-suc-le-suc h)

@@ -11,7 +11,7 @@ use Rattle.zigbee_types.specs.Outcome.{Outcome, answer, refusal, mapped,
 -- ---- a test
 
 -- no refusal is an answer
-refused : {A : Type 0} {a : A} {n : ℕ} → refusal n ≡ answer a → ⊥
+pub refused : {A : Type 0} {a : A} {n : ℕ} → refusal n ≡ answer a → ⊥
 refused e = let z : _≡_ {A = ℕ} 0 1 = cc in omega arith
 
 -- where a test that fails would refuse, an answer says that it held, and is what was to be answered

@@ -1,22 +1,22 @@
--- `write_endpoints` meets its contract. The loop's invariant: the first i endpoints were put. The measure is how many are left.
+-- `append` meets its contract. The loop's invariant: the first i bytes were put. The measure is how many are left.
 -- Assumes nothing.
 use Prim.Native.Nat.{_-_}
 use lib.ListN.{length}
 use borrow.Author.Needs.{needs}
 use Rattle.zigbee_types.proofs.Entries.{EntriesPut, entries-first, entries-next, entries-all}
-use Rattle.zdo_match_rsp.proofs.descriptor.write_endpoints.Statement.{statement}
-use Rattle.zdo_match_rsp.proofs.descriptor.write_endpoints.Tie as tie
+use Rattle.zdo_match_rsp.proofs.descriptor.append.Statement.{statement}
+use Rattle.zdo_match_rsp.proofs.descriptor.append.Tie as tie
 
 abbrev Inv-loop : tie.InvT-loop
-Inv-loop out₀ at endpoints at₀ i₀ out at' i = EntriesPut 1 endpoints i out₀ at at' out
+Inv-loop out₀ at bytes at₀ i₀ out at' i = EntriesPut 1 bytes i out₀ at at' out
 
 abbrev μ-loop : tie.MeasureT-loop
-μ-loop out₀ at endpoints at₀ i₀ out at' i = length endpoints - i
+μ-loop out₀ at bytes at₀ i₀ out at' i = length bytes - i
 
 ruleset laws = (needs, entries-first, entries-next)
 
-pub write-endpoints-spec : {M : Type 1} → statement M
-write-endpoints-spec =
+pub append-spec : {M : Type 1} → statement M
+append-spec =
     tie.close
     (tie.spec
     Inv-loop
