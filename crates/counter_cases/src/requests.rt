@@ -1,6 +1,9 @@
 // The requests of K7, K8 and K10, and some of every other kind (document 01, "Payloads"). A line has the payload's length, and its
 // fields or the refusal.
 use crate::print;
+use zdo_bind_req::descriptor::parse_bind_req;
+use zdo_leave_req::descriptor::parse_mgmt_leave_req;
+use zdo_match_req::descriptor::parse_match_desc_req;
 use zdo_requests::descriptor;
 use zdo_requests::descriptor::AddrOfInterestRead;
 use zdo_requests::descriptor::AddrOfInterestReqRead;
@@ -215,7 +218,7 @@ fn print_simple(asdu: &[u8]) {
 
 // The fields of a match request, each list by its place and its count.
 fn print_match(asdu: &[u8]) {
-    match descriptor::parse_match_desc_req(asdu) {
+    match parse_match_desc_req(asdu) {
         MatchDescReqRead::Request(request) => {
             print::byte(request.seq);
             print::hex(request.nwk_addr_of_interest.0 as u64, 4);
@@ -231,7 +234,7 @@ fn print_match(asdu: &[u8]) {
 
 // The fields of a bind request, the last a group, or a device and its endpoint.
 fn print_bind(asdu: &[u8]) {
-    match descriptor::parse_bind_req(asdu) {
+    match parse_bind_req(asdu) {
         BindReqRead::Request(request) => {
             print::byte(request.seq);
             print::hex(request.src_address.0, 16);
@@ -256,7 +259,7 @@ fn print_bind(asdu: &[u8]) {
 
 // The fields of a leave request.
 fn print_leave(asdu: &[u8]) {
-    match descriptor::parse_mgmt_leave_req(asdu) {
+    match parse_mgmt_leave_req(asdu) {
         MgmtLeaveReqRead::Request(request) => {
             print::byte(request.seq);
             let device_address = request.device_address;

@@ -5,6 +5,9 @@ use crate::replies;
 use crate::words;
 use crate::words::asks;
 use aps_binding::binding::Binding;
+use zdo_bind_req::descriptor::parse_bind_req;
+use zdo_leave_req::descriptor::parse_mgmt_leave_req;
+use zdo_match_req::descriptor::parse_match_desc_req;
 use zdo_requests::descriptor;
 use zdo_requests::descriptor::AddrOfInterestRead;
 use zdo_requests::descriptor::BindReq;
@@ -126,7 +129,7 @@ fn addr_of_interest(bytes: &[u8], out: &mut [u8], at: usize) -> usize {
 
 // Puts a match request, or `R`.
 fn match_desc(bytes: &[u8], out: &mut [u8], at: usize) -> usize {
-    match descriptor::parse_match_desc_req(bytes) {
+    match parse_match_desc_req(bytes) {
         MatchDescReqRead::Request(request) => {
             let inputs = request.input_clusters;
             let outputs = request.output_clusters;
@@ -181,7 +184,7 @@ fn put_list(bytes: &[u8], list: Places, out: &mut [u8], at: usize) -> usize {
 
 // Puts a request to bind or unbind, or `R`.
 fn bind(bytes: &[u8], out: &mut [u8], at: usize) -> usize {
-    match descriptor::parse_bind_req(bytes) {
+    match parse_bind_req(bytes) {
         BindReqRead::Request(request) => {
             let at = out::hex_u8(out, at, request.seq);
             let at = out::byte(out, at, b' ');
@@ -208,7 +211,7 @@ fn entry(request: BindReq) -> Binding {
 
 // Puts a leave request, or `R`.
 fn mgmt_leave(bytes: &[u8], out: &mut [u8], at: usize) -> usize {
-    match descriptor::parse_mgmt_leave_req(bytes) {
+    match parse_mgmt_leave_req(bytes) {
         MgmtLeaveReqRead::Request(request) => {
             let device_address = request.device_address;
             let at = out::hex_u8(out, at, request.seq);

@@ -19,9 +19,6 @@ use Rattle.zdo_requests.specs.declared.descriptor.SimpleDescReqRead.the-
 use Rattle.zdo_requests.specs.declared.descriptor.MatchDescReq.{MatchDescReq}
 use Rattle.zdo_requests.specs.declared.descriptor.MatchDescReqRead.{MatchDescReqRead}
 use Rattle.zdo_requests.specs.declared.descriptor.MatchDescReqRead.the-variants as match
-use Rattle.zdo_requests.specs.declared.descriptor.BindReqDestination.{BindReqDestination}
-use Rattle.zdo_requests.specs.declared.descriptor.DestinationRead.{DestinationRead}
-use Rattle.zdo_requests.specs.declared.descriptor.DestinationRead.the-variants as destination
 use Rattle.zdo_requests.specs.declared.descriptor.BindReq.{BindReq}
 use Rattle.zdo_requests.specs.declared.descriptor.BindReqRead.{BindReqRead}
 use Rattle.zdo_requests.specs.declared.descriptor.BindReqRead.the-variants as bind
@@ -58,11 +55,6 @@ simpleDescReqSays (simple.Refused why) = refusal (refusalNumber why)
 unfoldable pub matchDescReqSays : MatchDescReqRead → Outcome MatchDescReq
 matchDescReqSays (match.Request q) = answer q
 matchDescReqSays (match.Refused why) = refusal (refusalNumber why)
-
--- of the reader of a bind request's destination
-unfoldable pub destinationSays : DestinationRead → Outcome BindReqDestination
-destinationSays (destination.Destination d) = answer d
-destinationSays (destination.Refused why) = refusal (refusalNumber why)
 
 -- of `parse_bind_req`
 unfoldable pub bindReqSays : BindReqRead → Outcome BindReq

@@ -1,12 +1,9 @@
 // Requests as they are parsed, and the one that is written (000).
-use aps_binding::binding::Binding;
-use byte::lists;
 use byte::read_u8;
 use byte::read_u16;
 use byte::read_u64;
 use byte::write_u8;
 use byte::write_u16;
-use zigbee_types::ClusterListsRead;
 use zigbee_types::GroupAddress;
 use zigbee_types::IeeeAddress;
 use zigbee_types::Places;
@@ -14,12 +11,10 @@ use zigbee_types::Refusal;
 use zigbee_types::ShortAddress;
 use zigbee_types::Written;
 ghost use mathlib.Core.Path.{_≡_};
-ghost use Prim.Native.Nat.{_+_, _≤_};
-ghost use lib.ListN.{length};
 ghost use Rattle.zigbee_types.specs.Outcome.{Wrote};
 ghost use Rattle.zigbee_types.specs.Answers.{writtenSays};
-ghost use Rattle.zdo_requests.specs.Requests.{nwkAddrReqIn, ieeeAddrReqIn, addrOfInterestReqIn, addrOfInterestIn, simpleDescReqIn, matchDescReqIn, groupIn, deviceIn, destinationIn, bindReqIn, optionIeee, mgmtLeaveReqIn, nodeDescReq};
-ghost use Rattle.zdo_requests.specs.Answers.{nwkAddrReqSays, ieeeAddrReqSays, addrOfInterestReqSays, addrOfInterestSays, simpleDescReqSays, matchDescReqSays, destinationSays, bindReqSays, mgmtLeaveReqSays};
+ghost use Rattle.zdo_requests.specs.Requests.{nwkAddrReqIn, ieeeAddrReqIn, addrOfInterestReqIn, addrOfInterestIn, simpleDescReqIn, nodeDescReq};
+ghost use Rattle.zdo_requests.specs.Answers.{nwkAddrReqSays, ieeeAddrReqSays, addrOfInterestReqSays, addrOfInterestSays, simpleDescReqSays};
 
 // ZDP request cluster identifiers (2.4.3).
 pub const NWK_ADDR_REQ: u16 = 0x0000;
@@ -62,11 +57,6 @@ pub const BIND_RSP: u16 = 0x8021;
 pub const UNBIND_RSP: u16 = 0x8022;
 
 pub const MGMT_LEAVE_RSP: u16 = 0x8034;
-
-// Mgmt_Leave_req options (2.4.3.3.5).
-const MGMT_LEAVE_REMOVE_CHILDREN: u8 = 0b0100_0000;
-
-const MGMT_LEAVE_REJOIN: u8 = 0b1000_0000;
 
 // Address request type: report only the addressed device (2.4.3.1.1).
 pub const ADDR_REQUEST_SINGLE: u8 = 0x00;
@@ -178,12 +168,6 @@ pub enum MatchDescReqRead {
     Refused(Refusal),
 }
 
-// The destination of a bind request, or why there is none.
-enum DestinationRead {
-    Destination(BindReqDestination),
-    Refused(Refusal),
-}
-
 pub enum BindReqRead {
     Request(BindReq),
     Refused(Refusal),
@@ -289,132 +273,4 @@ pub fn node_desc_req(seq: u8, nwk_addr_of_interest: ShortAddress, out: &mut [u8]
     let at = write_u8(out, 0, seq);
     let at = write_u16(out, at, nwk_addr_of_interest.0);
     Written::Length(at)
-}
-
-// ---- match
-
-// Parses a Match_Desc_req (2.4.3.1.7). Refused where the payload is truncated or a declared cluster count runs past its end.
-pub fn parse_match_desc_req(asdu: &[u8]) -> MatchDescReqRead
-    ensures { λ r. ⌜ matchDescReqSays r ≡ matchDescReqIn (now (asdu .entry)) ⌝ }
-{
-    if asdu.len() < 5 {
-        return MatchDescReqRead::Refused(Refusal::Malformed);
-    }
-    let seq = read_u8(asdu, 0);
-    let nwk_addr_of_interest = read_u16(asdu, seq.next);
-    let profile_id = read_u16(asdu, nwk_addr_of_interest.next);
-    let read = lists::try_read(asdu, profile_id.next);
-    match read {
-        ClusterListsRead::Lists(lists) => {
-            let input_clusters = lists.input_clusters;
-            let output_clusters = lists.output_clusters;
-            MatchDescReqRead::Request(MatchDescReq {
-                seq: seq.value,
-                nwk_addr_of_interest: ShortAddress(nwk_addr_of_interest.value),
-                profile_id: profile_id.value,
-                input_clusters,
-                output_clusters,
-            })
-        }
-        ClusterListsRead::Refused(why) => MatchDescReqRead::Refused(why),
-    }
-}
-
-// ---- bind and unbind
-
-// Parses a Bind_req or Unbind_req (2.4.3.2.2, 2.4.3.2.3): seq, SrcAddress(8), SrcEndp(1), ClusterID(2), then the destination.
-pub fn parse_bind_req(asdu: &[u8]) -> BindReqRead
-    ensures { λ r. ⌜ bindReqSays r ≡ bindReqIn (now (asdu .entry)) ⌝ }
-{
-    if asdu.len() < 13 {
-        return BindReqRead::Refused(Refusal::Malformed);
-    }
-    let seq = read_u8(asdu, 0);
-    let src_address = read_u64(asdu, seq.next);
-    let src_endpoint = read_u8(asdu, src_address.next);
-    let cluster_id = read_u16(asdu, src_endpoint.next);
-    let read = read_destination(asdu, cluster_id.next);
-    match read {
-        DestinationRead::Destination(destination) => BindReqRead::Request(BindReq {
-            seq: seq.value,
-            src_address: IeeeAddress(src_address.value),
-            src_endpoint: src_endpoint.value,
-            cluster_id: cluster_id.value,
-            destination,
-        }),
-        DestinationRead::Refused(why) => BindReqRead::Refused(why),
-    }
-}
-
-// The destination of a bind request at a place (2.4.3.2.2): DstAddrMode(1), DstAddress(2 or 8), DstEndp(0 or 1).
-fn read_destination(asdu: &[u8], at: usize) -> DestinationRead
-    requires { ⌜ at + 1 ≤ length (now asdu) ⌝ }
-    ensures { λ r. ⌜ destinationSays r ≡ destinationIn (now (asdu .entry)) at ⌝ }
-{
-    let dst_addr_mode = read_u8(asdu, at);
-    if dst_addr_mode.value == Binding::GROUP {
-        return read_group(asdu, dst_addr_mode.next);
-    }
-    if dst_addr_mode.value == Binding::DEVICE {
-        return read_device(asdu, dst_addr_mode.next);
-    }
-    DestinationRead::Refused(Refusal::Malformed)
-}
-
-// The 16-bit group address at a place.
-fn read_group(asdu: &[u8], at: usize) -> DestinationRead
-    requires { ⌜ at ≤ length (now asdu) ⌝ }
-    ensures { λ r. ⌜ destinationSays r ≡ groupIn (now (asdu .entry)) at ⌝ }
-{
-    if asdu.len() < at + 2 {
-        return DestinationRead::Refused(Refusal::Malformed);
-    }
-    let group = read_u16(asdu, at);
-    DestinationRead::Destination(BindReqDestination::Group(GroupAddress(group.value)))
-}
-
-// The 64-bit address at a place, and the endpoint behind it.
-fn read_device(asdu: &[u8], at: usize) -> DestinationRead
-    requires { ⌜ at ≤ length (now asdu) ⌝ }
-    ensures { λ r. ⌜ destinationSays r ≡ deviceIn (now (asdu .entry)) at ⌝ }
-{
-    if asdu.len() < at + 9 {
-        return DestinationRead::Refused(Refusal::Malformed);
-    }
-    let ieee = read_u64(asdu, at);
-    let endpoint = read_u8(asdu, ieee.next);
-    DestinationRead::Destination(BindReqDestination::Device {
-        ieee: IeeeAddress(ieee.value),
-        endpoint: endpoint.value,
-    })
-}
-
-// ---- leave
-
-// Parses a Mgmt_Leave_req (2.4.3.3.5): seq, DeviceAddress(8), options.
-pub fn parse_mgmt_leave_req(asdu: &[u8]) -> MgmtLeaveReqRead
-    ensures { λ r. ⌜ mgmtLeaveReqSays r ≡ mgmtLeaveReqIn (now (asdu .entry)) ⌝ }
-{
-    if asdu.len() < 10 {
-        return MgmtLeaveReqRead::Refused(Refusal::Malformed);
-    }
-    let seq = read_u8(asdu, 0);
-    let addr = read_u64(asdu, seq.next);
-    let options = read_u8(asdu, addr.next);
-    MgmtLeaveReqRead::Request(MgmtLeaveReq {
-        seq: seq.value,
-        device_address: device_address(addr.value),
-        remove_children: options.value & MGMT_LEAVE_REMOVE_CHILDREN != 0,
-        rejoin: options.value & MGMT_LEAVE_REJOIN != 0,
-    })
-}
-
-// The device that an address names; zero names none.
-fn device_address(addr: u64) -> OptionIeeeAddress
-    ensures { λ r. ⌜ r ≡ optionIeee addr ⌝ }
-{
-    if addr == 0 {
-        return OptionIeeeAddress::None;
-    }
-    OptionIeeeAddress::Some(IeeeAddress(addr))
 }

@@ -1,8 +1,8 @@
 -- `parse_bind_req` meets its contract: four fields are read, then the destination behind them. Assumes nothing.
 use borrow.Author.Needs.{needs}
-use Rattle.zdo_requests.proofs.Parsed.{bind-short, bind-read, bind-refused}
-use Rattle.zdo_requests.proofs.descriptor.parse_bind_req.Statement.{statement}
-use Rattle.zdo_requests.proofs.descriptor.parse_bind_req.Tie as tie
+use Rattle.zdo_bind_req.proofs.Parsed.{bind-short, bind-read, bind-refused}
+use Rattle.zdo_bind_req.proofs.descriptor.parse_bind_req.Statement.{statement}
+use Rattle.zdo_bind_req.proofs.descriptor.parse_bind_req.Tie as tie
 
 ruleset laws = (needs, bind-short, bind-read, bind-refused)
 

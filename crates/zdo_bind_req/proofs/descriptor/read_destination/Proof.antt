@@ -1,8 +1,8 @@
 -- `read_destination` meets its contract: the mode tells which destination stands behind it. Assumes nothing.
 use borrow.Author.Needs.{needs}
-use Rattle.zdo_requests.proofs.Parsed.{mode-group, mode-device, mode-other}
-use Rattle.zdo_requests.proofs.descriptor.read_destination.Statement.{statement}
-use Rattle.zdo_requests.proofs.descriptor.read_destination.Tie as tie
+use Rattle.zdo_bind_req.proofs.Parsed.{mode-group, mode-device, mode-other}
+use Rattle.zdo_bind_req.proofs.descriptor.read_destination.Statement.{statement}
+use Rattle.zdo_bind_req.proofs.descriptor.read_destination.Tie as tie
 
 ruleset laws = (needs, mode-group, mode-device, mode-other)
 

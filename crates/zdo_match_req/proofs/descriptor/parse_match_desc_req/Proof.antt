@@ -1,8 +1,8 @@
 -- `parse_match_desc_req` meets its contract: three fields are read, then the lists behind them. Assumes nothing.
 use borrow.Author.Needs.{needs}
-use Rattle.zdo_requests.proofs.Parsed.{match-short, match-read, match-refused}
-use Rattle.zdo_requests.proofs.descriptor.parse_match_desc_req.Statement.{statement}
-use Rattle.zdo_requests.proofs.descriptor.parse_match_desc_req.Tie as tie
+use Rattle.zdo_match_req.proofs.Parsed.{match-short, match-read, match-refused}
+use Rattle.zdo_match_req.proofs.descriptor.parse_match_desc_req.Statement.{statement}
+use Rattle.zdo_match_req.proofs.descriptor.parse_match_desc_req.Tie as tie
 
 ruleset laws = (needs, match-short, match-read, match-refused)
 

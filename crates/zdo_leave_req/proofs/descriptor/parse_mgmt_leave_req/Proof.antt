@@ -2,11 +2,11 @@
 use borrow.Author.Needs.{needs}
 use Rattle.zigbee_types.specs.Layout.{size}
 use Rattle.zigbee_types.proofs.Runs.{run-short}
 use Rattle.zdo_requests.specs.Requests.{mgmtLeaveReqIn}
 use Rattle.zdo_requests.specs.Answers.{mgmtLeaveReqSays}
-use Rattle.zdo_requests.proofs.Parsed.{leave-read}
-use Rattle.zdo_requests.proofs.descriptor.parse_mgmt_leave_req.Statement.{statement}
-use Rattle.zdo_requests.proofs.descriptor.parse_mgmt_leave_req.Tie as tie
+use Rattle.zdo_leave_req.proofs.Parsed.{leave-read}
+use Rattle.zdo_leave_req.proofs.descriptor.parse_mgmt_leave_req.Statement.{statement}
+use Rattle.zdo_leave_req.proofs.descriptor.parse_mgmt_leave_req.Tie as tie
 
 ruleset laws = (needs, leave-read, run-short)
 

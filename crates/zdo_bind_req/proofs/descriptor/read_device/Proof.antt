@@ -1,9 +1,9 @@
 -- `read_device` meets its contract: eight bytes are read, and one behind them. Assumes nothing.
 use native.Mathlib.Omega.{arith}
 use borrow.Author.Needs.{needs}
-use Rattle.zdo_requests.proofs.Parsed.{device-short, device-read}
-use Rattle.zdo_requests.proofs.descriptor.read_device.Statement.{statement}
-use Rattle.zdo_requests.proofs.descriptor.read_device.Tie as tie
+use Rattle.zdo_bind_req.proofs.Parsed.{device-short, device-read}
+use Rattle.zdo_bind_req.proofs.descriptor.read_device.Statement.{statement}
+use Rattle.zdo_bind_req.proofs.descriptor.read_device.Tie as tie
 
 ruleset laws = (needs, device-read)
 

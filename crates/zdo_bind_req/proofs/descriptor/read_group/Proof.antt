@@ -1,9 +1,9 @@
 -- `read_group` meets its contract: two bytes are read. Assumes nothing.
 use native.Mathlib.Omega.{arith}
 use borrow.Author.Needs.{needs}
-use Rattle.zdo_requests.proofs.Parsed.{group-short, group-read}
-use Rattle.zdo_requests.proofs.descriptor.read_group.Statement.{statement}
-use Rattle.zdo_requests.proofs.descriptor.read_group.Tie as tie
+use Rattle.zdo_bind_req.proofs.Parsed.{group-short, group-read}
+use Rattle.zdo_bind_req.proofs.descriptor.read_group.Statement.{statement}
+use Rattle.zdo_bind_req.proofs.descriptor.read_group.Tie as tie
 
 ruleset laws = (needs, group-read)
 

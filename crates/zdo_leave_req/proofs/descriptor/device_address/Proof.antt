@@ -1,8 +1,8 @@
 -- `device_address` meets its contract: an address of zero is none. Assumes nothing.
 use borrow.Author.Needs.{needs}
-use Rattle.zdo_requests.proofs.Parsed.{address-none, address-some}
-use Rattle.zdo_requests.proofs.descriptor.device_address.Statement.{statement}
-use Rattle.zdo_requests.proofs.descriptor.device_address.Tie as tie
+use Rattle.zdo_leave_req.proofs.Parsed.{address-none, address-some}
+use Rattle.zdo_leave_req.proofs.descriptor.device_address.Statement.{statement}
+use Rattle.zdo_leave_req.proofs.descriptor.device_address.Tie as tie
 
 ruleset laws = (needs, address-none, address-some)
 
