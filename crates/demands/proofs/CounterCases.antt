@@ -7,7 +7,8 @@ use Rattle.zigbee_types.specs.Bytes.{le, number, numberAt, bitAt, bit}
 use Rattle.zigbee_types.specs.Layout.{laid, size, fieldsAt, parsed, counted, behind, listed, entriesAt, listsIn}
 use Rattle.zigbee_types.specs.Named.{named}
 use Rattle.node_descriptor.specs.NodeDescriptor.{logicalType, nodeByte0, nodeByte1, nodeDescriptor, nodeWidths, nodeDescriptorIn}
-use Rattle.node_power_descriptor.specs.PowerDescriptor.{currentPowerMode, powerSource, currentPowerSourceLevel, sourceBitmap, powerByte0, powerByte1, powerDescriptor, powerWidths, common, supports, usable, powerDescriptorIn}
+use Rattle.power_names.specs.Names.{currentPowerMode, powerSource, currentPowerSourceLevel, sourceBitmap}
+use Rattle.node_power_descriptor.specs.PowerDescriptor.{powerByte0, powerByte1, powerDescriptor, powerWidths, common, supports, usable, powerDescriptorIn}
 use Rattle.simple_descriptor.specs.SimpleDescriptor.{simpleHeader, simpleDescriptor, clusterCount, simpleWritten, simpleWidths, simpleOf, simpleDescriptorIn}
 use Rattle.aps_binding.specs.Entry.{zeroBinding, key, alike, same, formed}
 use Rattle.aps_binding_table.specs.Held.{holds, without, boundAs, bound, unboundAs, unbound}

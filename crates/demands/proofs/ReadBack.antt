@@ -22,11 +22,12 @@ use Rattle.node_descriptor.specs.NodeDescriptor.{typeNumber, typeNames, logical
 use Rattle.node_descriptor.specs.declared.descriptor.NodeDescriptorConfig.{NodeDescriptorConfig}
 use Rattle.node_descriptor.specs.declared.LogicalType.the-variants as type
 use Rattle.node_descriptor.proofs.Bits.{node-bits}
-use Rattle.node_power_descriptor.specs.PowerDescriptor.{modeNumber, modeNames, currentPowerMode, sourceNumber, sourceNames, powerSource, levelNumber, levelNames, currentPowerSourceLevel, sourceBits, powerByte0, powerByte1, powerDescriptor, powerWidths, powerDescriptorIn, powerFields, usable}
+use Rattle.power_names.specs.Names.{modeNumber, modeNames, currentPowerMode, sourceNumber, sourceNames, powerSource, levelNumber, levelNames, currentPowerSourceLevel, sourceBits}
+use Rattle.node_power_descriptor.specs.PowerDescriptor.{powerByte0, powerByte1, powerDescriptor, powerWidths, powerDescriptorIn, powerFields, usable}
 use Rattle.node_power_descriptor.specs.declared.descriptor.PowerDescriptorConfig.{PowerDescriptorConfig}
-use Rattle.node_power_descriptor.specs.declared.CurrentPowerMode.the-variants as mode
-use Rattle.node_power_descriptor.specs.declared.PowerSource.the-variants as source
-use Rattle.node_power_descriptor.specs.declared.CurrentPowerSourceLevel.the-variants as level
+use Rattle.power_names.specs.declared.CurrentPowerMode.the-variants as mode
+use Rattle.power_names.specs.declared.PowerSource.the-variants as source
+use Rattle.power_names.specs.declared.CurrentPowerSourceLevel.the-variants as level
 use Rattle.node_power_descriptor.proofs.Bits.{power-bits}
 use Rattle.simple_descriptor.specs.SimpleDescriptor.{Endpoint, simpleHeader, simpleDescriptor, clusterCount, simpleWritten, simpleWidths, simpleOf, simpleDescriptorIn, simpleFields}
 use Rattle.simple_descriptor.proofs.Written.{header-size}

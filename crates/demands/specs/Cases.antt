@@ -8,12 +8,12 @@ use Rattle.node_descriptor.specs.declared.descriptor.NodeDescriptorConfig.{Node
 use Rattle.node_power_descriptor.specs.declared.descriptor.PowerDescriptorConfig.{PowerDescriptorConfig}
 use Rattle.node_descriptor.specs.declared.LogicalType.{LogicalType}
 use Rattle.node_descriptor.specs.declared.LogicalType.the-variants as type
-use Rattle.node_power_descriptor.specs.declared.CurrentPowerMode.{CurrentPowerMode}
-use Rattle.node_power_descriptor.specs.declared.CurrentPowerMode.the-variants as mode
-use Rattle.node_power_descriptor.specs.declared.PowerSource.{PowerSource}
-use Rattle.node_power_descriptor.specs.declared.PowerSource.the-variants as source
-use Rattle.node_power_descriptor.specs.declared.CurrentPowerSourceLevel.{CurrentPowerSourceLevel}
-use Rattle.node_power_descriptor.specs.declared.CurrentPowerSourceLevel.the-variants as level
+use Rattle.power_names.specs.declared.CurrentPowerMode.{CurrentPowerMode}
+use Rattle.power_names.specs.declared.CurrentPowerMode.the-variants as mode
+use Rattle.power_names.specs.declared.PowerSource.{PowerSource}
+use Rattle.power_names.specs.declared.PowerSource.the-variants as source
+use Rattle.power_names.specs.declared.CurrentPowerSourceLevel.{CurrentPowerSourceLevel}
+use Rattle.power_names.specs.declared.CurrentPowerSourceLevel.the-variants as level
 use Rattle.aps_binding_table.specs.Table.{emptyTable}
 use Rattle.aps_binding_table.specs.declared.binding.BindingTable.{BindingTable}
 use Rattle.zdo_requests.specs.Requests.{matchDescReqIn}

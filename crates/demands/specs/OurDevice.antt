@@ -7,9 +7,9 @@ use Rattle.zigbee_types.specs.Addresses.{ieeeOf, shortOf}
 use Rattle.node_descriptor.specs.declared.descriptor.NodeDescriptorConfig.{NodeDescriptorConfig}
 use Rattle.node_power_descriptor.specs.declared.descriptor.PowerDescriptorConfig.{PowerDescriptorConfig}
 use Rattle.node_descriptor.specs.declared.LogicalType.the-variants.{EndDevice}
-use Rattle.node_power_descriptor.specs.declared.CurrentPowerMode.the-variants.{Stimulated}
-use Rattle.node_power_descriptor.specs.declared.PowerSource.the-variants.{DisposableBattery}
-use Rattle.node_power_descriptor.specs.declared.CurrentPowerSourceLevel.the-variants.{TwoThirds}
+use Rattle.power_names.specs.declared.CurrentPowerMode.the-variants.{Stimulated}
+use Rattle.power_names.specs.declared.PowerSource.the-variants.{DisposableBattery}
+use Rattle.power_names.specs.declared.CurrentPowerSourceLevel.the-variants.{TwoThirds}
 use Rattle.zdo_device.specs.Tables.{Pools}
 use Rattle.zdo_device.specs.declared.descriptor.EndpointDescriptor.{EndpointDescriptor}
 use Rattle.zdo_device.specs.declared.descriptor.DeviceDescriptorConfig.{DeviceDescriptorConfig}

@@ -12,11 +12,12 @@ use Rattle.zigbee_types.specs.declared.ShortAddress.{ShortAddress}
 use Rattle.node_descriptor.specs.NodeDescriptor.{typeNumber, typeBits, logicalType, nodeDescriptor, nodeDescriptorIn, nodeFields}
 use Rattle.node_descriptor.specs.declared.descriptor.NodeDescriptorConfig.{NodeDescriptorConfig}
 use Rattle.node_descriptor.specs.declared.LogicalType.the-variants as type
-use Rattle.node_power_descriptor.specs.PowerDescriptor.{modeNumber, modeBits, currentPowerMode, sourceNumber, sourceBits, powerSource, levelNumber, levelBits, currentPowerSourceLevel, powerDescriptor, powerDescriptorIn, powerFields, usable}
+use Rattle.power_names.specs.Names.{modeNumber, modeBits, currentPowerMode, sourceNumber, sourceBits, powerSource, levelNumber, levelBits, currentPowerSourceLevel}
+use Rattle.node_power_descriptor.specs.PowerDescriptor.{powerDescriptor, powerDescriptorIn, powerFields, usable}
 use Rattle.node_power_descriptor.specs.declared.descriptor.PowerDescriptorConfig.{PowerDescriptorConfig}
-use Rattle.node_power_descriptor.specs.declared.CurrentPowerMode.the-variants as mode
-use Rattle.node_power_descriptor.specs.declared.PowerSource.the-variants as source
-use Rattle.node_power_descriptor.specs.declared.CurrentPowerSourceLevel.the-variants as level
+use Rattle.power_names.specs.declared.CurrentPowerMode.the-variants as mode
+use Rattle.power_names.specs.declared.PowerSource.the-variants as source
+use Rattle.power_names.specs.declared.CurrentPowerSourceLevel.the-variants as level
 use Rattle.simple_descriptor.specs.SimpleDescriptor.{Endpoint, simpleWritten, simpleDescriptorIn, simpleFields}
 use Rattle.zdo_requests.specs.Requests.{addrOfInterestReqIn, addrOfInterestIn, nodeDescReq}
 use Rattle.zdo_requests.specs.declared.descriptor.AddrOfInterestReq.{AddrOfInterestReq}

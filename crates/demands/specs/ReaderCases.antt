@@ -11,7 +11,8 @@ use Rattle.zigbee_types.specs.Layout.{laid}
 use Rattle.zigbee_types.specs.Addresses.{groupOf}
 use Rattle.zigbee_types.specs.declared.Places.{Places}
 use Rattle.node_descriptor.specs.NodeDescriptor.{typeBits, logicalType, defaultNode, nodeDescriptor, nodeDescriptorIn, nodeFields}
-use Rattle.node_power_descriptor.specs.PowerDescriptor.{sourceBitmap, powerDescriptor, powerDescriptorIn, powerFields, supports, modeBits, currentPowerMode, sourceBits, powerSource, levelBits, currentPowerSourceLevel}
+use Rattle.power_names.specs.Names.{sourceBitmap, modeBits, currentPowerMode, sourceBits, powerSource, levelBits, currentPowerSourceLevel}
+use Rattle.node_power_descriptor.specs.PowerDescriptor.{powerDescriptor, powerDescriptorIn, powerFields, supports}
 use Rattle.node_flags.specs.Flags.{frequencyBandFlag, macCapabilityFlag, serverMaskFlag, descriptorCapabilityFlag}
 use Rattle.simple_descriptor.specs.SimpleDescriptor.{simpleDescriptorIn}
 use Rattle.node_descriptor.specs.declared.descriptor.NodeDescriptorConfig.{NodeDescriptorConfig}
@@ -20,10 +21,10 @@ use Rattle.node_flags.specs.declared.FrequencyBandFlag.the-variants.{Low, Mid, 
 use Rattle.node_flags.specs.declared.MacCapabilityFlag.the-variants.{AlternatePanCoordinator, DeviceType, PowerSource, ReceiverOnWhenIdle, SecurityCapability, AllocateAddress}
 use Rattle.node_flags.specs.declared.ServerMaskFlag.the-variants.{PrimaryTrustCenter, BackupTrustCenter, PrimaryBindingTableCache, BackupBindingTableCache, PrimaryDiscoveryCache, BackupDiscoveryCache, NetworkManager}
 use Rattle.node_flags.specs.declared.DescriptorCapabilityFlag.the-variants.{ExtendedActiveEndpontListAvailable, ExtendedSimpleDescriptorListAvailable}
-use Rattle.node_power_descriptor.specs.declared.CurrentPowerMode.the-variants as mode
-use Rattle.node_power_descriptor.specs.declared.PowerSource.{PowerSource as Source}
-use Rattle.node_power_descriptor.specs.declared.PowerSource.the-variants as source
-use Rattle.node_power_descriptor.specs.declared.CurrentPowerSourceLevel.the-variants as level
+use Rattle.power_names.specs.declared.CurrentPowerMode.the-variants as mode
+use Rattle.power_names.specs.declared.PowerSource.{PowerSource as Source}
+use Rattle.power_names.specs.declared.PowerSource.the-variants as source
+use Rattle.power_names.specs.declared.CurrentPowerSourceLevel.the-variants as level
 use Rattle.aps_binding.specs.Entry.{groupBinding, routes}
 use Rattle.zdo_replies.specs.Codes.{bindCode, discoveryCode, leaveStatus}
 use Rattle.zdo_replies.specs.declared.descriptor.BindStatus.the-variants as bind

@@ -3,7 +3,8 @@ use Prim.Native.Nat.{ℕ, _+_, _*_, _%_, _<_}
 use native.Mathlib.Omega.{arith}
 use mathlib.Core.Path.{_≡_}
 use lib.Bits.{bitOr, or-shifted-r}
-use Rattle.node_power_descriptor.specs.PowerDescriptor.{modeBits, sourceBits, levelBits, powerByte0, powerByte1}
+use Rattle.power_names.specs.Names.{modeBits, sourceBits, levelBits}
+use Rattle.node_power_descriptor.specs.PowerDescriptor.{powerByte0, powerByte1}
 use Rattle.node_power_descriptor.specs.Bits.{PowerBitsStand}
 use Rattle.node_power_descriptor.specs.declared.descriptor.PowerDescriptorConfig.{PowerDescriptorConfig}
 

@@ -1,4 +1,4 @@
 pub mod Bits
-pub mod Bitmap
+pub mod Common
 pub mod Usable
 pub mod Frames

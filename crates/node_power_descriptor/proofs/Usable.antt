@@ -13,12 +13,13 @@ use Rattle.zigbee_types.specs.Bytes.{bitAt}
 use Rattle.zigbee_types.specs.Lists.{any, find, option}
 use Rattle.zigbee_types.specs.Named.{named}
 use Rattle.zigbee_types.proofs.Named.{named-number}
-use Rattle.node_power_descriptor.specs.PowerDescriptor.{sourceNumber, sourceNames, sourceBits, powerSource, common, supports, usable}
+use Rattle.power_names.specs.Names.{sourceNumber, sourceNames, sourceBits, powerSource}
+use Rattle.power_names.specs.declared.PowerSource.{PowerSource}
+use Rattle.power_names.specs.declared.PowerSource.the-variants.{ConstantMainPower, RechargeableBattery, DisposableBattery, Reserved}
+use Rattle.power_names.proofs.PowerSource.{the-type}
+use Rattle.node_power_descriptor.specs.PowerDescriptor.{common, supports, usable}
 use Rattle.node_power_descriptor.specs.Bits.{UsableSources}
 use Rattle.node_power_descriptor.specs.declared.NodePowerDescriptor.{NodePowerDescriptor}
-use Rattle.node_power_descriptor.specs.declared.PowerSource.{PowerSource}
-use Rattle.node_power_descriptor.specs.declared.PowerSource.the-variants.{ConstantMainPower, RechargeableBattery, DisposableBattery, Reserved}
-use Rattle.node_power_descriptor.proofs.PowerSource.{the-type}
 
 -- has a source a name?
 hasName : PowerSource → Bool

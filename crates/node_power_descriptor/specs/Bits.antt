@@ -1,13 +1,12 @@
--- Where the fields that share a byte stand in it, which bits a union of sources has, and which sources the reader takes, as
--- statements. Terms of them stand in proofs/.
+-- Where the fields that share a byte stand in it, and which sources the reader takes, as statements. Terms of them stand in
+-- proofs/.
 use Prim.Native.Nat.{ℕ, _/_, _%_}
 use mathlib.Core.Path.{_≡_}
-use mathlib.Core.Bool.{false, _&&_}
-use mathlib.Core.List.{List, [], _∷_, map}
-use lib.Dec.{ltb}
+use mathlib.Core.Bool.{false}
+use mathlib.Core.List.{[], _∷_, map}
 use Rattle.zigbee_types.specs.Bytes.{bitAt}
-use Rattle.zigbee_types.specs.Lists.{any}
-use Rattle.node_power_descriptor.specs.PowerDescriptor.{modeBits, sourceBits, levelBits, powerByte0, powerByte1, sourceBitmap, usable}
+use Rattle.power_names.specs.Names.{modeBits, sourceBits, levelBits}
+use Rattle.node_power_descriptor.specs.PowerDescriptor.{powerByte0, powerByte1, usable}
 use Rattle.node_power_descriptor.specs.declared.descriptor.PowerDescriptorConfig.{PowerDescriptorConfig}
 
 -- document 01, module 3: mode low and sources high in byte 0, source low and level high in byte 1
@@ -20,10 +19,6 @@ pub record PowerBits (p : PowerDescriptorConfig) : Type 0 where
 -- of every power configuration
 abbrev pub PowerBitsStand : Type 0
 PowerBitsStand = (p : PowerDescriptorConfig) → PowerBits p
-
--- document 01, module 3: a bit is set in the union of sources exactly if it is one of the low four and some source has it
-abbrev pub BitmapUnion : Type 0
-BitmapUnion = (i : ℕ) (xs : List ℕ) → bitAt i (sourceBitmap xs) ≡ (ltb i 4 && any (bitAt i) xs)
 
 -- document 01, module 3: a current source is usable exactly if it is 1, 2 or 4 and its bit is among the available
 pub record UsableSources : Type 0 where

@@ -1,9 +1,9 @@
 // What a device says of its power: the configuration that the power descriptor is written from (000; 2.3.2.4).
-use crate::CurrentPowerMode;
-use crate::CurrentPowerSourceLevel;
 use crate::NODE_POWER_DESCRIPTOR_SIZE;
-use crate::PowerSource;
 use byte::write_u8;
+use power_names::CurrentPowerMode;
+use power_names::CurrentPowerSourceLevel;
+use power_names::PowerSource;
 use zigbee_types::Refusal;
 use zigbee_types::Written;
 ghost use mathlib.Core.Path.{_≡_};

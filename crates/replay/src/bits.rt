@@ -3,7 +3,7 @@ use crate::out;
 use crate::values;
 use crate::words;
 use crate::words::asks;
-use node_power_descriptor::PowerSource;
+use power_names::PowerSource;
 
 // What a line asks about bits: those of one value, or of all sources in a list.
 enum Question {

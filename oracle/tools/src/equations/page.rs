@@ -8,10 +8,11 @@ use std::path::Path;
 use super::Part;
 
 /// The crates whose definitions the equations cite.
-const CITED: [&str; 11] = [
+const CITED: [&str; 12] = [
     "zigbee_types",
     "node_flags",
     "node_descriptor",
+    "power_names",
     "node_power_descriptor",
     "simple_descriptor",
     "aps_binding",

@@ -1,6 +1,6 @@
 -- `NodePowerDescriptor::supports` tells whether a source is among the available: the two have a bit in common. Assumes nothing.
 use borrow.Author.Needs.{needs}
-use Rattle.node_power_descriptor.proofs.Bitmap.{supports-told}
+use Rattle.node_power_descriptor.proofs.Common.{supports-told}
 use Rattle.node_power_descriptor.proofs.NodePowerDescriptor.supports.Statement.{statement}
 use Rattle.node_power_descriptor.proofs.NodePowerDescriptor.supports.Tie as tie
 

@@ -3,9 +3,9 @@
 use Prim.Native.Nat.{_-_}
 use borrow.Author.Needs.{needs}
 use lib.ListN.{length}
-use Rattle.node_power_descriptor.proofs.Bitmap.{Gathering, gathering-first, gathering-next, gathering-end}
-use Rattle.node_power_descriptor.proofs.PowerSource.bitmap.Statement.{statement}
-use Rattle.node_power_descriptor.proofs.PowerSource.bitmap.Tie as tie
+use Rattle.power_names.proofs.Union.{Gathering, gathering-first, gathering-next, gathering-end}
+use Rattle.power_names.proofs.PowerSource.bitmap.Statement.{statement}
+use Rattle.power_names.proofs.PowerSource.bitmap.Tie as tie
 
 abbrev Inv-loop : tie.InvT-loop
 Inv-loop sources bits₀ i₀ bits i = Gathering sources i bits

@@ -2,10 +2,10 @@
 use Rattle.zigbee_types.specs.Lists.{find, option}
 use Rattle.zigbee_types.specs.Named.{named}
 use Rattle.zigbee_types.proofs.Named.{named-rest}
-use Rattle.node_power_descriptor.specs.PowerDescriptor.{sourceNumber, sourceNames, powerSource}
-use Rattle.node_power_descriptor.specs.declared.PowerSource.the-variants.{Reserved}
-use Rattle.node_power_descriptor.proofs.PowerSource.from_bits.Statement.{statement}
-use Rattle.node_power_descriptor.proofs.PowerSource.from_bits.Tie as tie
+use Rattle.power_names.specs.Names.{sourceNumber, sourceNames, powerSource}
+use Rattle.power_names.specs.declared.PowerSource.the-variants.{Reserved}
+use Rattle.power_names.proofs.PowerSource.from_bits.Statement.{statement}
+use Rattle.power_names.proofs.PowerSource.from_bits.Tie as tie
 
 pub from-bits-spec : {M : Type 1} → statement M
 unfolding powerSource named option find
