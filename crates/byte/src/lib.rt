@@ -1,8 +1,6 @@
 // Little-endian fields at a place of a slice (document 01, module 1), and bits of a number. A field of more than one byte is two
 // halves, the low half first; what reads or puts one hands back the place behind it, where the next field begins.
 // (Named after the crate by which the Rust reads and writes its fields.)
-pub mod lists;
-
 ghost use mathlib.Core.Path.{_≡_};
 ghost use Prim.Native.Nat.{_+_, _*_, _%_, _≤_};
 ghost use lib.ListN.{length};

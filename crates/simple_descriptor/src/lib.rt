@@ -1,7 +1,6 @@
 // The simple descriptor as it is read (2.3.2.5).
 pub mod descriptor;
 
-use byte::lists;
 use byte::nibble;
 use byte::read_u8;
 use byte::read_u16;
@@ -36,7 +35,7 @@ impl SimpleDescriptorFields {
     pub fn try_read(bytes: &[u8]) -> SimpleDescriptorRead
         ensures { λ r. ⌜ simpleSays r ≡ simpleDescriptorIn (now (bytes .entry)) ⌝ }
     {
-        let read = lists::try_read(bytes, 6);
+        let read = cluster_lists::try_read(bytes, 6);
         match read {
             ClusterListsRead::Lists(lists) =>
                 SimpleDescriptorRead::Descriptor(SimpleDescriptorFields::read(bytes, lists)),

@@ -1,5 +1,4 @@
 // Match requests as they are parsed (000).
-use byte::lists;
 use byte::read_u8;
 use byte::read_u16;
 use zdo_requests::descriptor::MatchDescReq;
@@ -21,7 +20,7 @@ pub fn parse_match_desc_req(asdu: &[u8]) -> MatchDescReqRead
     let seq = read_u8(asdu, 0);
     let nwk_addr_of_interest = read_u16(asdu, seq.next);
     let profile_id = read_u16(asdu, nwk_addr_of_interest.next);
-    let read = lists::try_read(asdu, profile_id.next);
+    let read = cluster_lists::try_read(asdu, profile_id.next);
     match read {
         ClusterListsRead::Lists(lists) => {
             let input_clusters = lists.input_clusters;

@@ -1,8 +1,8 @@
--- `lists::read_list` meets its contract: a byte that was read counts the list behind it. Assumes nothing.
+-- `read_list` meets its contract: a byte that was read counts the list behind it. Assumes nothing.
 use borrow.Author.Needs.{needs}
 use Rattle.zigbee_types.proofs.Counted.{list-counted}
-use Rattle.byte.proofs.lists.read_list.Statement.{statement}
-use Rattle.byte.proofs.lists.read_list.Tie as tie
+use Rattle.cluster_lists.proofs.read_list.Statement.{statement}
+use Rattle.cluster_lists.proofs.read_list.Tie as tie
 
 pub read-list-spec : {M : Type 1} → statement M
 read-list-spec =

@@ -1,8 +1,8 @@
--- `lists::try_read` meets its contract: the two lists are where they are counted, or refused. Assumes nothing.
+-- `try_read` meets its contract: the two lists are where they are counted, or refused. Assumes nothing.
 use borrow.Author.Needs.{needs}
 use Rattle.zigbee_types.proofs.Counted.{lists-none, lists-one, lists-cut, lists-whole}
-use Rattle.byte.proofs.lists.try_read.Statement.{statement}
-use Rattle.byte.proofs.lists.try_read.Tie as tie
+use Rattle.cluster_lists.proofs.try_read.Statement.{statement}
+use Rattle.cluster_lists.proofs.try_read.Tie as tie
 
 ruleset laws = (needs, lists-none, lists-one, lists-cut, lists-whole)
 

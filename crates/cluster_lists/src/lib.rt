@@ -1,5 +1,5 @@
 // Two counted lists of clusters in a frame (document 01, modules 4 and 5).
-use crate::read_u8;
+use byte::read_u8;
 use zigbee_types::ClusterLists;
 use zigbee_types::ClusterListsRead;
 use zigbee_types::Places;
