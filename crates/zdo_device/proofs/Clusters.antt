@@ -9,7 +9,7 @@ use lib.ListN.{length, take, drop}
 use borrow.Author.Tests.{leb-true}
 use Rattle.zigbee_types.specs.Lists.{part, option}
 use Rattle.zigbee_types.proofs.Scans.{denied, granted}
-use Rattle.zdo_device.specs.Tables.{Pools, endpointRecord, found, supportsEndpoint, recordFits, goodDevice, endpointOf, clustersOf, endpointClusters}
+use Rattle.zdo_device.specs.Tables.{Pools, endpointRecord, endpointSays, supportsEndpoint, recordFits, goodDevice, endpointOf, clustersOf, endpointClusters}
 use Rattle.zdo_device.specs.declared.descriptor.EndpointDescriptor.{EndpointDescriptor}
 use Rattle.zdo_device.specs.declared.descriptor.DeviceDescriptorConfig.{DeviceDescriptorConfig}
 use Rattle.zdo_device.specs.declared.descriptor.OptionEndpoint.{OptionEndpoint}
@@ -50,23 +50,23 @@ module _ (p : Pools) (d : DeviceDescriptorConfig) (s : Side) (n : ℕ) (t : Bool
   unfolding endpointClusters
   clusters-bad bad = rw (denied is bad)
 
-  module _ (fine : not t ≡ false) {q : OptionEndpoint} (f : found q ≡ endpointRecord d n) where
+  module _ (fine : not t ≡ false) {q : OptionEndpoint} (f : endpointSays q ≡ endpointRecord d n) where
     -- none, where there is no record
     pub clusters-none : q ≡ None → [] ≡ endpointClusters p d s n
-    unfolding endpointClusters option found
+    unfolding endpointClusters option endpointSays
     clusters-none e = rw (granted is fine, ← f, e)
 
     -- otherwise those of the record that is found
     pub clusters-found : {e : EndpointDescriptor} {xs : List ℕ} → q ≡ Some e → xs ≡ clustersOf s (endpointOf p e) → xs ≡ endpointClusters p d s n
-    unfolding endpointClusters option found
+    unfolding endpointClusters option endpointSays
     clusters-found e h = rw (granted is fine, ← f, e) h
 
 -- a number is supported where a record is found
-module _ (d : DeviceDescriptorConfig) (n : ℕ) {q : OptionEndpoint} (f : found q ≡ endpointRecord d n) where
+module _ (d : DeviceDescriptorConfig) (n : ℕ) {q : OptionEndpoint} (f : endpointSays q ≡ endpointRecord d n) where
   pub supports-some : {e : EndpointDescriptor} → q ≡ Some e → true ≡ supportsEndpoint d n
-  unfolding supportsEndpoint option found
+  unfolding supportsEndpoint option endpointSays
   supports-some e = rw (← f, e)
 
   pub supports-none : q ≡ None → false ≡ supportsEndpoint d n
-  unfolding supportsEndpoint option found
+  unfolding supportsEndpoint option endpointSays
   supports-none e = rw (← f, e)

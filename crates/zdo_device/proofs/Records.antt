@@ -11,7 +11,7 @@ use lib.Seq.{drop-cons, take-suc, getD-take}
 use borrow.Author.Tests.{eq-eqb, ne-eqb, leb-true, le-leb}
 use Rattle.zigbee_types.specs.Lists.{all, find}
 use Rattle.zigbee_types.proofs.Scans.{all-left, all-here, all-next, all-end, find-here, find-next, find-end, find-all, denied, granted}
-use Rattle.zdo_device.specs.Tables.{Pools, used, endpointRecord, found, recordFits, goodSizes, goodRecords, goodDevice}
+use Rattle.zdo_device.specs.Tables.{Pools, used, endpointRecord, endpointSays, recordFits, goodSizes, goodRecords, goodDevice}
 use Rattle.zdo_device.specs.declared.descriptor.EndpointDescriptor.{EndpointDescriptor}
 use Rattle.zdo_device.specs.declared.descriptor.DeviceDescriptorConfig.{DeviceDescriptorConfig}
 use Rattle.zdo_device.specs.declared.descriptor.OptionEndpoint.{OptionEndpoint}
@@ -76,8 +76,8 @@ module _ {d : DeviceDescriptorConfig} {number n i : ℕ} (s : Sought d number n 
     here = used-next d i z (rw (s .counted) h)
 
     -- the next one has it
-    pub sought-here : getD (d .endpoints) i z .endpoint ≡ number → found (Some (getD (d .endpoints) i z)) ≡ endpointRecord d number
-    unfolding found
+    pub sought-here : getD (d .endpoints) i z .endpoint ≡ number → endpointSays (Some (getD (d .endpoints) i z)) ≡ endpointRecord d number
+    unfolding endpointSays
     sought-here e = sym (s .left ∙ find-here _ here (eq-eqb _ _ e))
 
     -- is passed by too
@@ -86,8 +86,8 @@ module _ {d : DeviceDescriptorConfig} {number n i : ℕ} (s : Sought d number n 
         record { within = omega arith; few = s .few; counted = s .counted; left = s .left ∙ find-next _ here (ne-eqb _ _ e) }
 
   -- there is no next
-  pub sought-end : n ≤ i → found None ≡ endpointRecord d number
-  unfolding found
+  pub sought-end : n ≤ i → endpointSays None ≡ endpointRecord d number
+  unfolding endpointSays
   sought-end h = sym (s .left ∙ find-end _ (used-end d i (rw (s .counted) h)))
 
 -- ---- the check of the tables
@@ -172,6 +172,6 @@ module _ (p : Pools) (d : DeviceDescriptorConfig) (g : goodDevice p d ≡ true) 
 
   -- and so does the one that is found
   pub good-found :
-      (number : ℕ) {q : OptionEndpoint} {e : EndpointDescriptor} → q ≡ Some e → found q ≡ endpointRecord d number → recordFits p e ≡ true
-  unfolding found endpointRecord
+      (number : ℕ) {q : OptionEndpoint} {e : EndpointDescriptor} → q ≡ Some e → endpointSays q ≡ endpointRecord d number → recordFits p e ≡ true
+  unfolding endpointSays endpointRecord
   good-found number is f = find-all _ (recordFits p) (used d) good-fit (sym (rw is at f))

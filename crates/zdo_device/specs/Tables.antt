@@ -35,9 +35,9 @@ unfoldable pub endpointRecord : DeviceDescriptorConfig → ℕ → Option Endpoi
 endpointRecord d n = find (λ e. eqb (e .endpoint) n) (used d)
 
 -- what `endpoint` answers: a record, or none
-unfoldable pub found : OptionEndpoint → Option EndpointDescriptor
-found (Some e) = some e
-found None = none
+unfoldable pub endpointSays : OptionEndpoint → Option EndpointDescriptor
+endpointSays (Some e) = some e
+endpointSays None = none
 
 -- `supports_endpoint`: is there one?
 unfoldable pub supportsEndpoint : DeviceDescriptorConfig → ℕ → Bool

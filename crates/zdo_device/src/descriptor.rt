@@ -6,7 +6,7 @@ ghost use mathlib.Core.Path.{_≡_};
 ghost use mathlib.Core.Bool.{true};
 ghost use lib.ListN.{length};
 ghost use Rattle.zigbee_types.specs.Lists.{part};
-ghost use Rattle.zdo_device.specs.Tables.{pools, endpointRecord, found, supportsEndpoint, recordFits, goodSizes, goodDevice, endpointOf, clustersOf, endpointClusters};
+ghost use Rattle.zdo_device.specs.Tables.{pools, endpointRecord, endpointSays, supportsEndpoint, recordFits, goodSizes, goodDevice, endpointOf, clustersOf, endpointClusters};
 
 // The most records of a device, and the most clusters of a pool (document 01, "Device tables and sizes").
 const RECORDS: usize = 32;
@@ -63,7 +63,7 @@ pub enum OptionEndpoint {
 impl DeviceDescriptorConfig {
     // The first record in use that has a number.
     pub fn endpoint(self, endpoint: u8) -> OptionEndpoint
-        ensures { λ r. ⌜ found r ≡ endpointRecord self endpoint ⌝ }
+        ensures { λ r. ⌜ endpointSays r ≡ endpointRecord self endpoint ⌝ }
     {
         let count = places(self.endpoint_count);
         let mut i: usize = 0;

@@ -27,7 +27,7 @@ use Rattle.zigbee_types.proofs.Scans as scans
 use Rattle.simple_descriptor.specs.SimpleDescriptor.{Endpoint, endpointWith, simpleDescriptor, clusterCount, simpleWritten}
 use Rattle.simple_descriptor.proofs.Written.{simple-length}
 use Rattle.zdo_replies.specs.Replies.{header, endpointList, listRsp, emptyRsp, describedRsp}
-use Rattle.zdo_device.specs.Tables.{Pools, endpointRecord, found, goodDevice, endpointOf, clustersOf}
+use Rattle.zdo_device.specs.Tables.{Pools, endpointRecord, endpointSays, goodDevice, endpointOf, clustersOf}
 use Rattle.zdo_device.specs.declared.descriptor.EndpointDescriptor.{EndpointDescriptor}
 use Rattle.zdo_device.specs.declared.descriptor.DeviceDescriptorConfig.{DeviceDescriptorConfig}
 use Rattle.zdo_device.specs.declared.descriptor.OptionEndpoint.{OptionEndpoint}
@@ -143,19 +143,19 @@ unfolding clustersOf endpointOf
 own-written p e ins outs w = rw (ins, outs) at w
 
 module _ (seq : ℕ) (a : ShortAddress) (p : Pools) (d : DeviceDescriptorConfig) (n : ℕ) {before after : List ℕ} {told : Outcome ℕ} where
-  module _ {q : OptionEndpoint} (f : found q ≡ endpointRecord d n) where
+  module _ {q : OptionEndpoint} (f : endpointSays q ≡ endpointRecord d n) where
     -- the first record with the number answers
     pub simple-found :
         {e : EndpointDescriptor}
         → q ≡ Some e
         → Wrote (describedRsp seq a (endpointOf p e)) before told after
         → Wrote (simpleRspOf seq a p d n) before told after
-    unfolding simpleRspOf option found
+    unfolding simpleRspOf option endpointSays
     simple-found is w = rw (← f, is) w
 
     -- there is none
     pub simple-none : q ≡ None → Wrote (emptyRsp seq NOT-ACTIVE a) before told after → Wrote (simpleRspOf seq a p d n) before told after
-    unfolding simpleRspOf option found
+    unfolding simpleRspOf option endpointSays
     simple-none is w = rw (← f, is) w
 
   -- of tables that are good
