@@ -7,12 +7,12 @@ use zigbee_types::Refusal;
 use zigbee_types::ShortAddress;
 use zigbee_types::Written;
 ghost use mathlib.Core.Path.{_≡_};
-ghost use Prim.Native.Nat.{_+_, _≤_, min};
-ghost use lib.ListN.{length};
-ghost use Rattle.zigbee_types.specs.Outcome.{Wrote};
+ghost use mathlib.Core.List.{map, _++_};
+ghost use Prim.Native.Nat.{_≤_, min};
+ghost use lib.ListN.{length, take};
+ghost use Rattle.zigbee_types.specs.Outcome.{answer, Wrote};
 ghost use Rattle.zigbee_types.specs.Answers.{writtenSays};
-ghost use mathlib.Core.List.{map};
-ghost use Rattle.zigbee_types.specs.Layout.{byte, FieldsPut};
+ghost use Rattle.zigbee_types.specs.Layout.{byte, laid};
 ghost use Rattle.zdo_replies.specs.Codes.{discoveryCode};
 ghost use Rattle.zdo_replies.specs.Replies.{listRsp, matchDescRspError};
 
@@ -26,18 +26,22 @@ fn count_byte(count: usize) -> u8
     count as u8
 }
 
-// Puts bytes at a place, one behind the other, and tells the place behind them as a sum that callers can add to.
-fn append(out: &mut [u8], at: usize, bytes: &[u8]) -> usize
-    requires { ⌜ at + length (now bytes) ≤ length (now out) ⌝ }
-    ensures { λ r. ⌜ (r ≡ at + length (now (bytes .entry))) × FieldsPut (map byte (now (bytes .entry))) (now (out .entry)) at r (now (out .exit)) ⌝ }
+// Appends raw bytes at a place, reporting a short buffer in place of writing: what stands before the place and the bytes behind it are
+// then written, and so many are told.
+fn append(out: &mut [u8], at: usize, bytes: &[u8]) -> Written
+    requires { ⌜ at ≤ length (now out) ⌝ }
+    ensures { λ r. ⌜ Wrote (answer (take at (now (out .entry)) ++ laid (map byte (now (bytes .entry))))) (now (out .entry)) (writtenSays r) (now (out .exit)) ⌝ }
 {
+    if out.len() - at < bytes.len() {
+        return Written::Refused(Refusal::ShortBuffer);
+    }
     let mut at = at;
     let mut i: usize = 0;
     while i < bytes.len() {
         at = write_u8(out, at, bytes[i]);
         i += 1;
     }
-    at
+    Written::Length(at)
 }
 
 // Builds a reply that carries a list of bytes and before it how many there are: the endpoints of a Match_Desc_rsp, or the descriptor
@@ -51,8 +55,7 @@ pub fn list_rsp(seq: u8, nwk_addr: ShortAddress, list: &[u8], out: &mut [u8]) ->
     }
     let at = write_header(out, seq, STATUS_SUCCESS, nwk_addr);
     let at = write_u8(out, at, count_byte(list.len()));
-    let at = append(out, at, list);
-    Written::Length(at)
+    append(out, at, list)
 }
 
 // Builds a Match_Desc_rsp (2.4.4.2.7): seq, status, NWKAddrOfInterest, MatchLength, MatchList.

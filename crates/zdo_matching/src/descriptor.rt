@@ -121,9 +121,9 @@ fn shares(payload: &[u8], requested: Places, own: &[u16]) -> bool
     ensures { λ r. ⌜ r ≡ shared (entriesAt 2 (now (payload .entry)) requested) (now (own .entry)) ⌝ }
 {
     let mut found = false;
-    let mut i: usize = 0;
-    'search: while i < requested.count {
-        let cluster = read_u16(payload, requested.start + 2 * i);
+    let mut k: usize = 0;
+    'search: while k < requested.count {
+        let cluster = read_u16(payload, requested.start + 2 * k);
         let mut j: usize = 0;
         while j < own.len() {
             if own[j] == cluster.value {
@@ -132,7 +132,7 @@ fn shares(payload: &[u8], requested: Places, own: &[u16]) -> bool
             }
             j += 1;
         }
-        i += 1;
+        k += 1;
     }
     found
 }

@@ -1,6 +1,7 @@
 -- `active_ep_rsp` meets its contract. The loop's invariant: the numbers of the first i records were put. The measure is how many are
 -- left. Assumes nothing.
 use Prim.Native.Nat.{_-_}
+use native.Mathlib.Omega.{arith}
 use borrow.Author.Needs.{needs}
 use Rattle.zigbee_types.proofs.Elements.{length-mapped}
 use Rattle.zdo_desc_rsp.proofs.Written.{header-place}
@@ -14,7 +15,7 @@ Inv-loop seq out₀ device count at at₀ i₀ out at' i = Listed device count i
 abbrev μ-loop : tie.MeasureT-loop
 μ-loop seq out₀ device count at at₀ i₀ out at' i = count - i
 
-ruleset laws = (needs, length-mapped, active-many, active-full, listed-first, listed-within, listed-room, listed-next, active-writes)
+ruleset laws = (needs, length-mapped, listed-first, listed-within, listed-room, active-writes)
 
 pub active-ep-rsp-spec : {M : Type 1} → statement M
 active-ep-rsp-spec =
@@ -22,9 +23,9 @@ active-ep-rsp-spec =
     (tie.spec
     Inv-loop
     μ-loop
-    (λ c. search laws)  -- returns
+    (λ c. active-many _ _ _ _ (omega arith))  -- returns
     (λ c. search laws)  -- add-if2
-    (λ c. search laws)  -- returns-2
+    (λ c. active-full _ (search laws) (omega arith) _ _ _ (omega arith))  -- returns-2
     (λ c κs. search laws)  -- write-header-requires
     (λ c. search laws)  -- cast-write-u8
     (λ c κs. let at = header-place _ _ _ (c .before .before .before .write-header .ensures) in search laws)  -- write-u8-requires
@@ -34,6 +35,6 @@ active-ep-rsp-spec =
     (λ c κs. search laws)  -- write-u8-requires-2
     (λ c. search laws)  -- add-i
     (λ c. search laws)  -- loop-less
-    (λ c. search laws)  -- loop-again
+    (λ c. listed-next (c .before .before .before .before .before .before .loop .inv) _ (search needs) (c .before .before .write-u82 .ensures))  -- loop-again
     (λ c. search laws)  -- same-length
     (λ c. search laws))  -- returns-3

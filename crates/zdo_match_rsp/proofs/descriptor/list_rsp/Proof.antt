@@ -1,13 +1,14 @@
 -- `list_rsp` meets its contract: the header is put, then the count and the list. Assumes nothing.
+use native.Mathlib.Omega.{arith}
 use borrow.Author.Needs.{needs}
 use Rattle.zigbee_types.specs.Bytes.{le}
 use Rattle.zigbee_types.specs.Layout.{laid}
 use Rattle.zdo_replies.specs.Replies.{header}
-use Rattle.zdo_match_rsp.proofs.Written.{list-full, list-writes}
+use Rattle.zdo_match_rsp.proofs.Written.{list-full, list-appended}
 use Rattle.zdo_match_rsp.proofs.descriptor.list_rsp.Statement.{statement}
 use Rattle.zdo_match_rsp.proofs.descriptor.list_rsp.Tie as tie
 
-ruleset laws = (needs, list-full, list-writes)
+ruleset laws = (needs, list-appended)
 
 pub list-rsp-spec : {M : Type 1} → statement M
 unfolding laid le header
@@ -15,7 +16,7 @@ list-rsp-spec =
     tie.close
     (tie.spec
     (λ c. search laws)  -- add-if1
-    (λ c. search laws)  -- returns
+    (λ c. list-full _ _ _ _ (omega arith))  -- returns
     (λ c κs. search laws)  -- write-header-requires
     (λ c κs. search laws)  -- count-byte-requires
     (λ c κs. search laws)  -- write-u8-requires
