@@ -7,7 +7,7 @@ use mathlib.Core.Option.{Option, none, some}
 use lib.Dec.{eqb, leb}
 use lib.ListN.{length, take}
 use Rattle.zigbee_types.specs.Lists.{part, all, find, option}
-use Rattle.simple_descriptor.specs.SimpleDescriptor.{Endpoint}
+use Rattle.simple_descriptor.specs.SimpleDescriptor.{Endpoint, endpointWith}
 use Rattle.zdo_device.specs.declared.descriptor.EndpointDescriptor.{EndpointDescriptor}
 use Rattle.zdo_device.specs.declared.descriptor.DeviceDescriptorConfig.{DeviceDescriptorConfig}
 use Rattle.zdo_device.specs.declared.descriptor.OptionEndpoint.{OptionEndpoint}
@@ -26,11 +26,11 @@ pools inputs outputs = record { inputs = inputs; outputs = outputs }
 
 -- ---- records
 
--- the records in use; those behind the count are free
+-- the records in use; those behind the count are free. A count above 32 reaches all 32.
 unfoldable pub used : DeviceDescriptorConfig → List EndpointDescriptor
 used d = take (d .«endpoint_count») (d .endpoints)
 
--- `endpoint`: the first record answers for a number
+-- `endpoint`: the first record in use that has a number, or none; it refuses nothing
 unfoldable pub endpointRecord : DeviceDescriptorConfig → ℕ → Option EndpointDescriptor
 endpointRecord d n = find (λ e. eqb (e .endpoint) n) (used d)
 
@@ -43,9 +43,10 @@ endpointSays None = none
 unfoldable pub supportsEndpoint : DeviceDescriptorConfig → ℕ → Bool
 supportsEndpoint d n = option false (λ e. true) (endpointRecord d n)
 
--- ---- when tables are good; refusal 1 is given for others
+-- ---- when tables are good. Matching and the simple reply give refusal 1 for others; the active reply is lent no pools, and gives
+-- it for a count above 32.
 
--- a record's two parts lie within their pools
+-- a record's two parts end within their pools; a part without clusters must start there too
 unfoldable pub recordFits : Pools → EndpointDescriptor → Bool
 recordFits p e = leb (e .«input_start» + e .«input_count») (length (p .inputs)) && leb (e .«output_start» + e .«output_count») (length (p .outputs))
 
@@ -53,7 +54,7 @@ recordFits p e = leb (e .«input_start» + e .«input_count») (length (p .input
 unfoldable pub goodSizes : ℕ → ℕ → ℕ → Bool
 goodSizes records inputs outputs = leb records 32 && leb inputs 512 && leb outputs 512
 
--- so many, and each record within its pools
+-- no more than these, and each record within its pools. (An array has no more than 32 records; a lent run may have.)
 unfoldable pub goodRecords : Pools → List EndpointDescriptor → Bool
 goodRecords p records = goodSizes (length records) (length (p .inputs)) (length (p .outputs)) && all (recordFits p) records
 
@@ -66,14 +67,9 @@ goodDevice p d = leb (d .«endpoint_count») 32 && goodRecords p (used d)
 -- a record, with its parts of the pools
 unfoldable pub endpointOf : Pools → EndpointDescriptor → Endpoint
 endpointOf p e =
-    record {
-      endpoint = e .endpoint;
-      «profile_id» = e .«profile_id»;
-      «device_id» = e .«device_id»;
-      «device_version» = e .«device_version»;
-      «input_clusters» = part (e .«input_start») (e .«input_count») (p .inputs);
-      «output_clusters» = part (e .«output_start») (e .«output_count») (p .outputs);
-    }
+    endpointWith (e .endpoint) (e .«profile_id») (e .«device_id») (e .«device_version»)
+    (part (e .«input_start») (e .«input_count») (p .inputs))
+    (part (e .«output_start») (e .«output_count») (p .outputs))
 
 -- records, each with its parts of the pools
 unfoldable pub resolvedIn : Pools → List EndpointDescriptor → List Endpoint
@@ -84,7 +80,7 @@ unfoldable pub clustersOf : Side → Endpoint → List ℕ
 clustersOf Input e = e .«input_clusters»
 clustersOf Output e = e .«output_clusters»
 
--- the part of a pool that an endpoint number has: that of its first record; none where there is no record, or the tables
--- are not good
+-- the part of a pool that an endpoint number has: that of its first record; empty where there is no record, or the tables are not
+-- good
 unfoldable pub endpointClusters : Pools → DeviceDescriptorConfig → Side → ℕ → List ℕ
 endpointClusters p d s n = cond (goodDevice p d) (option [] (λ e. clustersOf s (endpointOf p e)) (endpointRecord d n)) []

@@ -61,11 +61,11 @@ pub enum OptionEndpoint {
 }
 
 impl DeviceDescriptorConfig {
-    // The first record in use that has a number.
+    // The first record in use that has a number, or none. A count above 32 reaches all 32 records, here and in the next.
     pub fn endpoint(self, endpoint: u8) -> OptionEndpoint
         ensures { λ r. ⌜ endpointSays r ≡ endpointRecord self endpoint ⌝ }
     {
-        let count = places(self.endpoint_count);
+        let count = in_use(self.endpoint_count);
         let mut i: usize = 0;
         while i < count {
             let ep = self.endpoints[i];
@@ -135,8 +135,8 @@ pub enum Side {
     Output,
 }
 
-// How many of the records are in use, whatever the count says.
-fn places(count: usize) -> usize
+// How many records a count reaches: 32 for a greater one.
+fn in_use(count: usize) -> usize
     ensures { λ r. ⌜ r ≡ min count 32 ⌝ }
 {
     if count > RECORDS {

@@ -24,15 +24,11 @@ use Rattle.zdo_device.specs.Tables.{used}
 use Rattle.zdo_device.specs.declared.descriptor.EndpointDescriptor.{EndpointDescriptor}
 use Rattle.zdo_device.specs.declared.descriptor.DeviceDescriptorConfig.{DeviceDescriptorConfig}
 use Rattle.zdo_device.proofs.Records.{used-counted, used-at}
-use Rattle.zdo_device_rsp.specs.TableReplies.{activeRspOf, activeRecords, activeEpRsp}
-
--- the numbers of the records in use
-unfoldable pub numbers : DeviceDescriptorConfig → List ℕ
-numbers d = map (λ e. e .endpoint) (used d)
+use Rattle.zdo_device_rsp.specs.TableReplies.{numbers, activeRspOf, activeEpRsp}
 
 -- the number at a place is that of the record there
 number-at :
-    (d : DeviceDescriptorConfig) (i : ℕ) (z : EndpointDescriptor) → i < length (numbers d) → getD (numbers d) i 0 ≡ getD (d .endpoints) i z .endpoint
+    (d : DeviceDescriptorConfig) (i : ℕ) (z : EndpointDescriptor) → i < length (numbers (used d)) → getD (numbers (used d)) i 0 ≡ getD (d .endpoints) i z .endpoint
 unfolding numbers
 number-at d i z h =
     let inside : i < length (used d) = rw length-map at h in
@@ -51,30 +47,30 @@ module _ (d : DeviceDescriptorConfig) (long : length (d .endpoints) ≡ 32) (few
   used-few = omega (arith, used-counted d long)
 
   -- there are as many as the count says
-  pub numbers-counted : length (numbers d) ≡ d .«endpoint_count»
+  pub numbers-counted : length (numbers (used d)) ≡ d .«endpoint_count»
   unfolding numbers
   numbers-counted = rw length-map used-few
 
   -- so the reply is a list
-  active-list : (seq : ℕ) (a : ShortAddress) → activeEpRsp seq a d ≡ listRsp seq a (numbers d)
-  unfolding activeEpRsp activeRecords activeRspOf numbers
-  active-list seq a = rw (used-few, le-leb _ _ few)
+  active-list : (seq : ℕ) (a : ShortAddress) → activeEpRsp seq a d ≡ listRsp seq a (numbers (used d))
+  unfolding activeEpRsp activeRspOf
+  active-list seq a = rw (le-leb _ _ few)
 
   -- refused where there is no room
   pub active-full :
       (seq : ℕ) (a : ShortAddress) (out : List ℕ)
       → length out < 5 + d .«endpoint_count»
       → Wrote (activeEpRsp seq a d) out (writtenSays (Refused ShortBuffer)) out
-  active-full seq a out h = rw (active-list seq a) (list-full seq a (numbers d) out (rw numbers-counted h))
+  active-full seq a out h = rw (active-list seq a) (list-full seq a (numbers (used d)) out (rw numbers-counted h))
 
 -- ---- the loop
 
 -- the numbers of the first i of n records were put from a place on
 pub record Listed (d : DeviceDescriptorConfig) (n i : ℕ) (s : List ℕ) (at next : ℕ) (t : List ℕ) : Type 0 where
   pub few : n ≤ 32
-  pub counted : length (numbers d) ≡ n
+  pub counted : length (numbers (used d)) ≡ n
   pub room : at + n ≤ length s
-  pub put : EntriesPut 1 (numbers d) i s at next t
+  pub put : EntriesPut 1 (numbers (used d)) i s at next t
 
 -- none, to begin with: a header stands there, and the count behind it
 pub listed-first :
@@ -123,5 +119,5 @@ module _ {d : DeviceDescriptorConfig} {n i at m : ℕ} {s t : List ℕ} (l : Lis
       → Wrote (activeEpRsp seq a d) before (writtenSays (Length m)) t
   active-writes seq a long few p q h e =
       let counted = numbers-counted d long few in
-      let count : d .«endpoint_count» ≡ min (length (numbers d)) 255 = omega arith in
-      rw (active-list d long few seq a) (list-writes seq a (numbers d) _ p count q (entries-all (l .put) (rw (l .counted) e)) (rw counted h))
+      let count : d .«endpoint_count» ≡ min (length (numbers (used d))) 255 = omega arith in
+      rw (active-list d long few seq a) (list-writes seq a (numbers (used d)) _ p count q (entries-all (l .put) (rw (l .counted) e)) (rw counted h))

@@ -13,17 +13,21 @@ use Rattle.zdo_device.specs.Tables.{Pools, used, endpointRecord, goodDevice, en
 use Rattle.zdo_device.specs.declared.descriptor.EndpointDescriptor.{EndpointDescriptor}
 use Rattle.zdo_device.specs.declared.descriptor.DeviceDescriptorConfig.{DeviceDescriptorConfig}
 
--- 2.4.4.2.6: the numbers of a run of records, in table order
+-- the numbers of a run of records, in table order
+unfoldable pub numbers : List EndpointDescriptor → List ℕ
+numbers records = map (λ e. e .endpoint) records
+
+-- 2.4.4.2.6: the reply that lists them
 unfoldable pub activeRspOf : ℕ → ShortAddress → List EndpointDescriptor → Outcome (List ℕ)
-activeRspOf seq address records = listRsp seq address (map (λ e. e .endpoint) records)
+activeRspOf seq address records = listRsp seq address (numbers records)
 
 -- the active list over a run of records: refusal 1 for more than 32
 unfoldable pub activeRecords : ℕ → ShortAddress → List EndpointDescriptor → Outcome (List ℕ)
 activeRecords seq address records = cond (leb (length records) 32) (activeRspOf seq address records) (refusal 1)
 
--- `active_ep_rsp`: refusal 1 for a count above 32 too
+-- `active_ep_rsp`: refusal 1 for a count above 32. Where the records point is not looked at.
 unfoldable pub activeEpRsp : ℕ → ShortAddress → DeviceDescriptorConfig → Outcome (List ℕ)
-activeEpRsp seq address d = cond (leb (d .«endpoint_count») 32) (activeRecords seq address (used d)) (refusal 1)
+activeEpRsp seq address d = cond (leb (d .«endpoint_count») 32) (activeRspOf seq address (used d)) (refusal 1)
 
 -- 2.4.4.2.5: the simple descriptor of the first record with the number; NOT_ACTIVE and length 0 where there is none
 unfoldable pub simpleRspOf : ℕ → ShortAddress → Pools → DeviceDescriptorConfig → ℕ → Outcome (List ℕ)

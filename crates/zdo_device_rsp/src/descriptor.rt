@@ -110,8 +110,7 @@ fn described_rsp<'a>(
     }
 }
 
-// Writes the simple descriptor of a record (2.3.2.5) at the front of a buffer, as its writer does with the record's fields and its
-// parts of the pools.
+// Writes the simple descriptor of a record (2.3.2.5) at the front of a buffer: its fields, and its parts of the two pools.
 fn write_record<'a>(
     ep: EndpointDescriptor,
     inputs: &'a [u16],

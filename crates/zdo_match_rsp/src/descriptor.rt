@@ -44,9 +44,9 @@ fn append(out: &mut [u8], at: usize, bytes: &[u8]) -> Written
     Written::Length(at)
 }
 
-// Builds a reply that carries a list of bytes and before it how many there are: the endpoints of a Match_Desc_rsp, or the descriptor
-// of a Simple_Desc_rsp. Given more than 255 it writes 255 as the count, and all of them. Too short a buffer is refused, and nothing is
-// written.
+// Builds a reply of SUCCESS that carries a list of bytes, and before it how many there are. Such is a list of endpoints; a descriptor
+// behind its length has the same form. Given more than 255 bytes it writes 255 as the count, and all of them. Too short a buffer is
+// refused, and nothing is written.
 pub fn list_rsp(seq: u8, nwk_addr: ShortAddress, list: &[u8], out: &mut [u8]) -> Written
     ensures { λ r. ⌜ Wrote (listRsp seq «nwk_addr» (now (list .entry))) (now (out .entry)) (writtenSays r) (now (out .exit)) ⌝ }
 {
@@ -58,7 +58,8 @@ pub fn list_rsp(seq: u8, nwk_addr: ShortAddress, list: &[u8], out: &mut [u8]) ->
     append(out, at, list)
 }
 
-// Builds a Match_Desc_rsp (2.4.4.2.7): seq, status, NWKAddrOfInterest, MatchLength, MatchList.
+// Builds a Match_Desc_rsp (2.4.4.2.7): seq, status, NWKAddrOfInterest, MatchLength, MatchList. Given more than 255 endpoints it
+// writes 255 as MatchLength, and all of them. Too short a buffer is refused, and nothing is written.
 pub fn match_desc_rsp(seq: u8, nwk_addr: ShortAddress, matches: &[u8], out: &mut [u8]) -> Written
     ensures { λ r. ⌜ Wrote (listRsp seq «nwk_addr» (now (matches .entry))) (now (out .entry)) (writtenSays r) (now (out .exit)) ⌝ }
 {

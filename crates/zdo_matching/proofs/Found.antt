@@ -16,7 +16,7 @@ use Rattle.zdo_device.specs.Tables.{Pools, used, recordFits, goodRecords, goodD
 use Rattle.zdo_device.specs.declared.descriptor.EndpointDescriptor.{EndpointDescriptor}
 use Rattle.zdo_device.specs.declared.descriptor.DeviceDescriptorConfig.{DeviceDescriptorConfig}
 use Rattle.zdo_device.proofs.Records.{used-counted, used-done, used-all, good-count, good-fit}
-use Rattle.zdo_matching.specs.Matching.{Wanted, wanted, matches, matchList, goodPlaces, matchedRecords, matchingEndpoints}
+use Rattle.zdo_matching.specs.Matching.{Wanted, wanted, matches, matchList, goodPlaces, matchedIn, matchingEndpoints}
 use Rattle.zdo_matching.specs.Answers.{matchingSays}
 use Rattle.zdo_matching.specs.declared.descriptor.Matched.{Matched}
 use Rattle.zdo_matching.specs.declared.descriptor.Matching.the-variants as matching
@@ -113,18 +113,6 @@ module _ {w : Wanted} {p : Pools} {d : DeviceDescriptorConfig} {n i k : ℕ} {be
 
 -- ---- the tests before it
 
--- a test of the count, and then of the records, is a test of the device
-device-tested :
-    (p : Pools) (d : DeviceDescriptorConfig) (q : MatchDescReq) (payload : List ℕ)
-    → matchingEndpoints p d q payload
-    ≡ cond (goodDevice p d) (cond (goodPlaces q payload) (answer (matchList (wanted q payload) (resolvedIn p (used d)))) (refusal 3)) (refusal 1)
-unfolding matchingEndpoints matchedRecords goodDevice
-device-tested p d q payload =
-    elim (leb (d .«endpoint_count») 32) as (λ t. cond t (cond (goodRecords p (used d)) (cond (goodPlaces q payload) (answer (matchList (wanted q payload) (resolvedIn p (used d)))) (refusal 3)) (refusal 1)) (refusal 1) ≡ cond (t && goodRecords p (used d)) (cond (goodPlaces q payload) (answer (matchList (wanted q payload) (resolvedIn p (used d)))) (refusal 3)) (refusal 1)) [
-      | true ↦ refl
-      | false ↦ refl
-    ]
-
 -- a refusal leaves the buffer as it was
 begun-refused : (n : ℕ) (before : List ℕ) → Begun (refusal n) before (refusal n) before
 unfolding begunLength begun mapped
@@ -139,14 +127,14 @@ module _
     (is : t ≡ goodDevice p d) where
   -- refusal 1
   pub refused-tables : not t ≡ true → Begun (matchingEndpoints p d q payload) before (matchingSays (matching.Refused BadTables)) before
-  unfolding matchingSays
-  refused-tables bad = rw (device-tested p d q payload, denied is bad) (begun-refused 1 before)
+  unfolding matchingSays matchingEndpoints
+  refused-tables bad = rw (denied is bad) (begun-refused 1 before)
 
   module _ (fine : not t ≡ false) {u : Bool} (places : u ≡ goodPlaces q payload) where
     -- refusal 3
     pub refused-places : not u ≡ true → Begun (matchingEndpoints p d q payload) before (matchingSays (matching.Refused Malformed)) before
-    unfolding matchingSays
-    refused-places bad = rw (device-tested p d q payload, granted is fine, denied places bad) (begun-refused 3 before)
+    unfolding matchingSays matchingEndpoints matchedIn
+    refused-places bad = rw (granted is fine, denied places bad) (begun-refused 3 before)
 
     -- otherwise what is found
     pub found-matched :
@@ -154,5 +142,5 @@ module _
         → (m : Matched) {after : List ℕ}
         → Begun (answer (matchList (wanted q payload) (resolvedIn p (used d)))) before (answer (m .written)) after
         → Begun (matchingEndpoints p d q payload) before (matchingSays (matching.Matched m)) after
-    unfolding matchingSays
-    found-matched good m h = rw (device-tested p d q payload, granted is fine, granted places good) h
+    unfolding matchingSays matchingEndpoints matchedIn
+    found-matched good m h = rw (granted is fine, granted places good) h

@@ -9,7 +9,7 @@ use Rattle.zigbee_types.specs.Layout.{behind, entriesAt}
 use Rattle.zigbee_types.specs.Lists.{any, filter}
 use Rattle.simple_descriptor.specs.SimpleDescriptor.{Endpoint}
 use Rattle.zdo_requests.specs.declared.descriptor.MatchDescReq.{MatchDescReq}
-use Rattle.zdo_device.specs.Tables.{Pools, used, goodRecords, resolvedIn}
+use Rattle.zdo_device.specs.Tables.{Pools, used, goodRecords, goodDevice, resolvedIn}
 use Rattle.zdo_device.specs.declared.descriptor.EndpointDescriptor.{EndpointDescriptor}
 use Rattle.zdo_device.specs.declared.descriptor.DeviceDescriptorConfig.{DeviceDescriptorConfig}
 
@@ -19,7 +19,7 @@ pub record Wanted : Type 0 where
   pub inputs : List ℕ
   pub outputs : List ℕ
 
--- a request's lists stand in its payload, two bytes for each cluster
+-- what a request asks for: its profile, and the clusters of its two lists, read from the payload, two bytes for each
 unfoldable pub wanted : MatchDescReq → List ℕ → Wanted
 wanted q payload =
     record { profile = q .«profile_id»; inputs = entriesAt 2 payload (q .«input_clusters»); outputs = entriesAt 2 payload (q .«output_clusters») }
@@ -40,17 +40,18 @@ matches w e = profileMatches (w .profile) (e .«profile_id») && (shared (w .inp
 unfoldable pub matchList : Wanted → List Endpoint → List ℕ
 matchList w endpoints = map (λ e. e .endpoint) (filter (matches w) endpoints)
 
--- refusal 3 is given for others: a request's lists lie within the payload
+-- do a request's two lists end within the payload? If not, refusal 3. A list without clusters must start there too.
 unfoldable pub goodPlaces : MatchDescReq → List ℕ → Bool
 goodPlaces q payload = leb (behind 2 (q .«input_clusters»)) (length payload) && leb (behind 2 (q .«output_clusters»)) (length payload)
 
--- matching over a run of records: refusal 1, then refusal 3, then the list
-unfoldable pub matchedRecords : Pools → List EndpointDescriptor → MatchDescReq → List ℕ → Outcome (List ℕ)
-matchedRecords p records q payload =
-    cond (goodRecords p records)
-    (cond (goodPlaces q payload) (answer (matchList (wanted q payload) (resolvedIn p records))) (refusal 3))
-    (refusal 1)
+-- what is found among good records: refusal 3, or the list
+unfoldable pub matchedIn : Pools → List EndpointDescriptor → MatchDescReq → List ℕ → Outcome (List ℕ)
+matchedIn p records q payload = cond (goodPlaces q payload) (answer (matchList (wanted q payload) (resolvedIn p records))) (refusal 3)
 
--- `matching_endpoints`: refusal 1 for a count above 32 too
+-- matching over a run of records: refusal 1 where they are not good
+unfoldable pub matchedRecords : Pools → List EndpointDescriptor → MatchDescReq → List ℕ → Outcome (List ℕ)
+matchedRecords p records q payload = cond (goodRecords p records) (matchedIn p records q payload) (refusal 1)
+
+-- `matching_endpoints`: refusal 1 where the device's tables are not good
 unfoldable pub matchingEndpoints : Pools → DeviceDescriptorConfig → MatchDescReq → List ℕ → Outcome (List ℕ)
-matchingEndpoints p d q payload = cond (leb (d .«endpoint_count») 32) (matchedRecords p (used d) q payload) (refusal 1)
+matchingEndpoints p d q payload = cond (goodDevice p d) (matchedIn p (used d) q payload) (refusal 1)

@@ -147,7 +147,7 @@ fn good_places(request: MatchDescReq, payload: &[u8]) -> bool
     within(input_clusters, length) & within(output_clusters, length)
 }
 
-// Whether a list of clusters lies within so many bytes. Its end may be a number that the machine does not have.
+// Whether a list of clusters ends within so many bytes. The end itself may be too large a number for the machine.
 fn within(list: Places, length: usize) -> bool
     ensures { λ r. ⌜ r ≡ leb (behind 2 list) length ⌝ }
 {

@@ -43,7 +43,7 @@ endpointList endpoints = byte (min (length endpoints) 255) ∷ map byte endpoint
 unfoldable pub listRsp : ℕ → ShortAddress → List ℕ → Outcome (List ℕ)
 listRsp seq address endpoints = answer (laid (header seq SUCCESS address ++ endpointList endpoints))
 
--- an error of active or simple: a zero in place of the list or the descriptor; 5 bytes
+-- a zero in place of the list or the descriptor, with a status: an error of active or simple, and NOT_ACTIVE; 5 bytes
 unfoldable pub emptyRsp : ℕ → ℕ → ShortAddress → Outcome (List ℕ)
 emptyRsp seq status address = answer (laid (header seq status address ++ byte 0 ∷ []))
 

@@ -21,7 +21,7 @@ endpoint-spec =
     (tie.spec
     Inv-loop
     μ-loop
-    (λ c κs. search laws)  -- places-requires
+    (λ c κs. search laws)  -- in-use-requires
     (λ c. search laws)  -- loop-holds
     (λ c. search laws)  -- mul-record
     (λ c. search laws)  -- element-copy-out-record
