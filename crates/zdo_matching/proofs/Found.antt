@@ -2,9 +2,8 @@
 use Prim.Native.Nat.{ℕ, _+_, _≤_, _<_}
 use native.Mathlib.Omega.{arith}
 use mathlib.Core.Path.{_≡_, refl}
-use mathlib.Core.Bool.{Bool, true, false, _&&_, not, cond}
+use mathlib.Core.Bool.{Bool, true, false, not, cond}
 use mathlib.Core.List.{List, [], _∷_, _++_, map-append, append-nil}
-use lib.Dec.{leb}
 use lib.ListN.{length, getD, take, set}
 use lib.Seq.{take-all}
 use Rattle.zigbee_types.specs.Lists.{all, filter}
@@ -12,7 +11,7 @@ use Rattle.zigbee_types.specs.Outcome.{answer, refusal, mapped, begunLength, be
 use Rattle.zigbee_types.specs.declared.Refusal.the-variants.{BadTables, Malformed}
 use Rattle.zigbee_types.proofs.Scans.{filter-last, denied, granted}
 use Rattle.zdo_requests.specs.declared.descriptor.MatchDescReq.{MatchDescReq}
-use Rattle.zdo_device.specs.Tables.{Pools, used, recordFits, goodRecords, goodDevice, endpointOf, resolvedIn}
+use Rattle.zdo_device.specs.Tables.{Pools, used, recordFits, goodDevice, endpointOf, resolvedIn}
 use Rattle.zdo_device.specs.declared.descriptor.EndpointDescriptor.{EndpointDescriptor}
 use Rattle.zdo_device.specs.declared.descriptor.DeviceDescriptorConfig.{DeviceDescriptorConfig}
 use Rattle.zdo_device.proofs.Records.{used-counted, used-done, used-all, good-count, good-fit}
