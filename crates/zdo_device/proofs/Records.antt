@@ -54,41 +54,62 @@ module _ (d : DeviceDescriptorConfig) where
     pub used-end : length (used d) ≤ i → drop i (used d) ≡ []
     used-end h = drop-of-length-le (used d) h
 
--- ---- the search for a number
+-- ---- a loop
 
--- the first i of n records were passed by: none of them has the number
-pub record Sought (d : DeviceDescriptorConfig) (number n i : ℕ) : Type 0 where
+-- a loop over n records in use stands at the i-th
+pub record At (d : DeviceDescriptorConfig) (n i : ℕ) : Type 0 where
   pub within : i ≤ n
   pub few : n ≤ 32
   pub counted : length (used d) ≡ n
+
+-- at the first
+pub at-first : {d : DeviceDescriptorConfig} {n : ℕ} → length (d .endpoints) ≡ 32 → n ≡ min (d .«endpoint_count») 32 → At d n 0
+at-first {d} e h = record { within = omega arith; few = omega arith; counted = used-counted d e ∙ sym h }
+
+module _ {d : DeviceDescriptorConfig} {n i : ℕ} (l : At d n i) where
+  pub at-inside : i < n → i < length (used d)
+  at-inside h = rw (l .counted) h
+
+  -- at the next
+  pub at-next : i < n → At d n (i + 1)
+  at-next h = record { within = omega arith; few = l .few; counted = l .counted }
+
+  -- that one, and those behind it
+  pub at-here : (z : EndpointDescriptor) → i < n → drop i (used d) ≡ getD (d .endpoints) i z ∷ drop (i + 1) (used d)
+  at-here z h = used-next d i z (at-inside h)
+
+  -- at the end
+  pub at-end : n ≤ i → drop i (used d) ≡ []
+  at-end h = used-end d i (rw (l .counted) h)
+
+-- ---- the search for a number
+
+-- the records before the i-th do not have the number
+pub record Sought (d : DeviceDescriptorConfig) (number n i : ℕ) : Type 0 where
+  pub at : At d n i
   pub left : endpointRecord d number ≡ find (λ e. eqb (e .endpoint) number) (drop i (used d))
 
--- none, to begin with
+-- of none, to begin with
 pub sought-first :
     {d : DeviceDescriptorConfig} {number n : ℕ} → length (d .endpoints) ≡ 32 → n ≡ min (d .«endpoint_count») 32 → Sought d number n 0
 unfolding endpointRecord
-sought-first {d} e h =
-    record { within = omega arith; few = omega arith; counted = used-counted d e ∙ sym h; left = refl }
+sought-first e h = record { at = at-first e h; left = refl }
 
 module _ {d : DeviceDescriptorConfig} {number n i : ℕ} (s : Sought d number n i) where
   module _ (z : EndpointDescriptor) (h : i < n) where
-    here : drop i (used d) ≡ getD (d .endpoints) i z ∷ drop (i + 1) (used d)
-    here = used-next d i z (rw (s .counted) h)
-
     -- the next one has it
     pub sought-here : getD (d .endpoints) i z .endpoint ≡ number → endpointSays (Some (getD (d .endpoints) i z)) ≡ endpointRecord d number
     unfolding endpointSays
-    sought-here e = sym (s .left ∙ find-here _ here (eq-eqb _ _ e))
+    sought-here e = sym (s .left ∙ find-here _ (at-here (s .at) z h) (eq-eqb _ _ e))
 
-    -- is passed by too
+    -- nor has the next one
     pub sought-next : (getD (d .endpoints) i z .endpoint ≡ number → ⊥) → Sought d number n (i + 1)
-    sought-next e =
-        record { within = omega arith; few = s .few; counted = s .counted; left = s .left ∙ find-next _ here (ne-eqb _ _ e) }
+    sought-next e = record { at = at-next (s .at) h; left = s .left ∙ find-next _ (at-here (s .at) z h) (ne-eqb _ _ e) }
 
   -- there is no next
   pub sought-end : n ≤ i → endpointSays None ≡ endpointRecord d number
   unfolding endpointSays
-  sought-end h = sym (s .left ∙ find-end _ (used-end d i (rw (s .counted) h)))
+  sought-end h = sym (s .left ∙ find-end _ (at-end (s .at) h))
 
 -- ---- the check of the tables
 
@@ -115,14 +136,12 @@ sizes-bad p d t e is bad = go (leb (d .«endpoint_count») 32) refl
         let same : length (used d) ≡ d .«endpoint_count» = omega (arith, used-counted d e, leb-true (d .«endpoint_count») 32 f) in
         rw (same, denied is bad)
 
--- the first i of n records fit
+-- the records before the i-th fit
 pub record Checked (p : Pools) (d : DeviceDescriptorConfig) (n i : ℕ) : Type 0 where
-  pub within : i ≤ n
-  pub few : n ≤ 32
-  pub counted : length (used d) ≡ n
+  pub at : At d n i
   pub left : goodDevice p d ≡ all (recordFits p) (drop i (used d))
 
--- none, to begin with
+-- of none, to begin with
 pub checked-first :
     (p : Pools) (d : DeviceDescriptorConfig) (t : Bool)
     → length (d .endpoints) ≡ 32
@@ -133,26 +152,22 @@ unfolding goodDevice goodRecords
 checked-first p d t e is fine =
     let sizes : goodSizes (d .«endpoint_count») (length (p .inputs)) (length (p .outputs)) ≡ true = granted is fine in
     let few : d .«endpoint_count» ≤ 32 = sizes-few _ _ _ sizes in
-    let same : length (used d) ≡ d .«endpoint_count» = omega (arith, used-counted d e) in
-    record { within = omega arith; few = few; counted = same; left = rw (same, le-leb _ _ few, sizes) }
+    let at : At d (d .«endpoint_count») 0 = at-first e (omega arith) in
+    record { at = at; left = rw (at .counted, le-leb _ _ few, sizes) }
 
 module _ {p : Pools} {d : DeviceDescriptorConfig} {n i : ℕ} (c : Checked p d n i) where
   module _ (z : EndpointDescriptor) (h : i < n) {t : Bool} (is : t ≡ recordFits p (getD (d .endpoints) i z)) where
-    next : drop i (used d) ≡ getD (d .endpoints) i z ∷ drop (i + 1) (used d)
-    next = used-next d i z (rw (c .counted) h)
-
     -- the next one does not
     pub checked-here : not t ≡ true → false ≡ goodDevice p d
-    checked-here bad = sym (c .left ∙ all-here _ next (denied is bad))
+    checked-here bad = sym (c .left ∙ all-here _ (at-here (c .at) z h) (denied is bad))
 
-    -- fits too
+    -- so does the next one
     pub checked-next : not t ≡ false → Checked p d n (i + 1)
-    checked-next fine =
-        record { within = omega arith; few = c .few; counted = c .counted; left = c .left ∙ all-next _ next (granted is fine) }
+    checked-next fine = record { at = at-next (c .at) h; left = c .left ∙ all-next _ (at-here (c .at) z h) (granted is fine) }
 
   -- all do
   pub checked-end : n ≤ i → true ≡ goodDevice p d
-  checked-end h = sym (c .left ∙ all-end _ (used-end d i (rw (c .counted) h)))
+  checked-end h = sym (c .left ∙ all-end _ (at-end (c .at) h))
 
 -- ---- good tables
 

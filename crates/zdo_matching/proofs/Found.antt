@@ -14,7 +14,7 @@ use Rattle.zdo_requests.specs.declared.descriptor.MatchDescReq.{MatchDescReq}
 use Rattle.zdo_device.specs.Tables.{Pools, used, recordFits, goodDevice, endpointOf, resolvedIn}
 use Rattle.zdo_device.specs.declared.descriptor.EndpointDescriptor.{EndpointDescriptor}
 use Rattle.zdo_device.specs.declared.descriptor.DeviceDescriptorConfig.{DeviceDescriptorConfig}
-use Rattle.zdo_device.proofs.Records.{used-counted, used-done, used-all, good-count, good-fit}
+use Rattle.zdo_device.proofs.Records.{used-done, used-all, At, at-first, at-inside, at-next, good-count, good-fit}
 use Rattle.zdo_matching.specs.Matching.{Wanted, wanted, matches, matchList, goodPlaces, matchedIn, matchingEndpoints}
 use Rattle.zdo_matching.specs.Answers.{matchingSays}
 use Rattle.zdo_matching.specs.declared.descriptor.Matched.{Matched}
@@ -23,16 +23,14 @@ use Rattle.zdo_matching.proofs.Filled.{Filled, filled-none, filled-leng
 
 -- ---- the loop
 
--- among the first i of n records in use, as many as match were written, or as many as there was room for
+-- of the records before the i-th those that match were written, or as many of them as there was room for
 pub record Found (w : Wanted) (p : Pools) (d : DeviceDescriptorConfig) (n i : ℕ) (before : List ℕ) (k : ℕ) (after : List ℕ) : Type 0 where
-  pub within : i ≤ n
-  pub few : n ≤ 32
-  pub counted : length (used d) ≡ n
+  pub at : At d n i
   pub fit : all (recordFits p) (used d) ≡ true
   pub same : length after ≡ length before
   pub filled : Filled (matchList w (resolvedIn p (take i (used d)))) before k after
 
--- none, to begin with
+-- of none, to begin with
 pub found-first :
     (w : Wanted) {p : Pools} {d : DeviceDescriptorConfig} {before : List ℕ}
     → length (d .endpoints) ≡ 32
@@ -41,31 +39,24 @@ pub found-first :
 unfolding matchList resolvedIn filter
 found-first w {p} {d} {before} e g =
     let few = good-count p d g in
-    record {
-      within = omega arith;
-      few = few;
-      counted = omega (arith, used-counted d e);
-      fit = good-fit p d g;
-      same = refl;
-      filled = filled-none before;
-    }
+    record { at = at-first e (omega arith); fit = good-fit p d g; same = refl; filled = filled-none before }
 
 module _ {w : Wanted} {p : Pools} {d : DeviceDescriptorConfig} {n i k : ℕ} {before after : List ℕ} (f : Found w p d n i before k after) where
-  -- all of them
+  -- of all of them
   pub found-end : n ≤ i → Begun (answer (matchList w (resolvedIn p (used d)))) before (answer k) after
-  found-end h = filled-begun (rw (take-all i (used d) (rw (f .counted) h)) at (f .filled))
+  found-end h = filled-begun (rw (take-all i (used d) (rw (f .at .counted) h)) at (f .filled))
 
   module _ (z : EndpointDescriptor) (h : i < n) where
     -- the next one fits
     pub found-fits : recordFits p (getD (d .endpoints) i z) ≡ true
-    found-fits = used-all d i (recordFits p) z (rw (f .counted) h) (f .fit)
+    found-fits = used-all d i (recordFits p) z (at-inside (f .at) h) (f .fit)
 
     -- what it adds
     more :
         matchList w (resolvedIn p (take (i + 1) (used d)))
         ≡ matchList w (resolvedIn p (take i (used d))) ++ matchList w (endpointOf p (getD (d .endpoints) i z) ∷ [])
     unfolding matchList resolvedIn
-    more = rw (used-done d i z (rw (f .counted) h), map-append, filter-last, map-append)
+    more = rw (used-done d i z (at-inside (f .at) h), map-append, filter-last, map-append)
 
     module _ {t : Bool} (is : t ≡ matches w (endpointOf p (getD (d .endpoints) i z))) where
       one : (b : Bool) → t ≡ b → matchList w (endpointOf p (getD (d .endpoints) i z) ∷ []) ≡ cond b (getD (d .endpoints) i z .endpoint ∷ []) []
@@ -73,42 +64,25 @@ module _ {w : Wanted} {p : Pools} {d : DeviceDescriptorConfig} {n i k : ℕ} {be
       one true e = rw (← is, e)
       one false e = rw (← is, e)
 
+      -- so is the next one, whatever it adds
+      next :
+          (b : Bool) {m : ℕ} {later : List ℕ}
+          → t ≡ b
+          → Filled (matchList w (resolvedIn p (take i (used d))) ++ cond b (getD (d .endpoints) i z .endpoint ∷ []) []) before m later
+          → Found w p d n (i + 1) before m later
+      next b e g = record { at = at-next (f .at) h; fit = f .fit; same = filled-length g; filled = rw (more, one b e) g }
+
       -- it does not match
       pub found-skip : t ≡ false → Found w p d n (i + 1) before k after
-      found-skip e =
-          record {
-            within = omega arith;
-            few = f .few;
-            counted = f .counted;
-            fit = f .fit;
-            same = f .same;
-            filled = rw (more, one false e, append-nil) (f .filled);
-          }
+      found-skip e = next false e (rw append-nil (f .filled))
 
       -- it does, and is written
       pub found-more : t ≡ true → k < length after → Found w p d n (i + 1) before (k + 1) (set after k (getD (d .endpoints) i z .endpoint))
-      found-more e r =
-          let next = filled-more (f .filled) (getD (d .endpoints) i z .endpoint) (rw (f .same) at r) in
-          record {
-            within = omega arith;
-            few = f .few;
-            counted = f .counted;
-            fit = f .fit;
-            same = filled-length next;
-            filled = rw (more, one true e) next;
-          }
+      found-more e r = next true e (filled-more (f .filled) _ (rw (f .same) at r))
 
       -- it does, and there is no room
       pub found-full : t ≡ true → length after ≤ k → Found w p d n (i + 1) before k after
-      found-full e r =
-          record {
-            within = omega arith;
-            few = f .few;
-            counted = f .counted;
-            fit = f .fit;
-            same = f .same;
-            filled = rw (more, one true e) (filled-full (f .filled) (getD (d .endpoints) i z .endpoint) (rw (f .same) at r));
-          }
+      found-full e r = next true e (filled-full (f .filled) _ (rw (f .same) at r))
 
 -- ---- the tests before it
 
