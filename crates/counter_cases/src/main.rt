@@ -1,9 +1,11 @@
 // The program of counter-cases: runs the library on inputs of document 01 and of docs/DIFFERENCES.md, and prints what it gives.
-// Its file stdout has what document 01 says. Today: the descriptors in K1 to K6, K1's reply, the requests of K7, K8 and K10,
-// K10's reply, and the binding table in K11; and the other requests, and the replies that need no endpoint records.
+// Its file stdout has what document 01 says. K1 to K11 are there, of K10 the request and the reply each by itself, and beside them
+// the other requests and replies, and more of the binding table, the device's records and matching.
 mod bindings;
 mod descriptors;
+mod device;
 mod fields;
+mod matching;
 mod print;
 mod replies;
 mod requests;
@@ -16,8 +18,11 @@ fn main() {
     descriptors::k3();
     descriptors::k4();
     descriptors::k5();
+    device::k5();
     descriptors::k6();
+    device::k6();
     requests::k7_k8();
+    matching::k7_k9();
     fields::k10();
     requests::k10();
     replies::k10();
@@ -28,4 +33,8 @@ fn main() {
     replies::others();
     replies::many_matches();
     replies::codes();
+    device::others();
+    matching::places();
+    matching::sizes();
+    matching::past_pools();
 }

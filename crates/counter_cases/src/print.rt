@@ -25,6 +25,11 @@ pub(crate) fn byte(byte: u8) {
     hex(byte as u64, 2);
 }
 
+// A number of two bytes in hexadecimal, with a space before it.
+pub(crate) fn word(n: u16) {
+    hex(n as u64, 4);
+}
+
 // Bytes in hexadecimal, with a space before each.
 pub(crate) fn bytes(bytes: &[u8]) {
     let mut i: usize = 0;
