@@ -1,13 +1,14 @@
 -- Each enum that holds an answer or a refusal comes back from what it says. Assumes nothing.
 use Prim.Native.Nat.{ℕ}
-use mathlib.Core.Path.{refl, sym, _∙_}
+use mathlib.Core.Path.{_≡_, refl, sym, ap, _∙_}
 use mathlib.Core.Bool.{cond}
+use mathlib.Core.Option.{Option, none, some}
 use lib.Dec.{eqb}
 use Rattle.zigbee_types.specs.Statuses.{SUCCESS, NO-ENTRY}
 use Rattle.zigbee_types.specs.Answers.{writtenSays, listsSays}
 use Rattle.zigbee_types.specs.declared.Written.the-variants as written
 use Rattle.zigbee_types.specs.declared.ClusterListsRead.the-variants as lists
-use Rattle.zigbee_types.proofs.OneOutcome.{determined, refused-back, one-wrote}
+use Rattle.zigbee_types.proofs.OneOutcome.{determined, refused-back, one-wrote, one-begun}
 use Rattle.node_descriptor.specs.NodeDescriptor.{nodeSays}
 use Rattle.node_descriptor.specs.declared.NodeDescriptorRead.the-variants as node
 use Rattle.node_power_descriptor.specs.PowerDescriptor.{powerSays}
@@ -26,6 +27,12 @@ use Rattle.zdo_requests.specs.declared.descriptor.SimpleDescReqRead.the-variant
 use Rattle.zdo_requests.specs.declared.descriptor.MatchDescReqRead.the-variants as matchReq
 use Rattle.zdo_requests.specs.declared.descriptor.BindReqRead.the-variants as bindReq
 use Rattle.zdo_requests.specs.declared.descriptor.MgmtLeaveReqRead.the-variants as leaveReq
+use Rattle.zdo_device.specs.Tables.{endpointSays}
+use Rattle.zdo_device.specs.declared.descriptor.EndpointDescriptor.{EndpointDescriptor}
+use Rattle.zdo_device.specs.declared.descriptor.OptionEndpoint.{OptionEndpoint}
+use Rattle.zdo_device.specs.declared.descriptor.OptionEndpoint.the-variants as optional
+use Rattle.zdo_matching.specs.Answers.{matchingSays}
+use Rattle.zdo_matching.specs.declared.descriptor.Matching.the-variants as matching
 use Rattle.demands.specs.OneAnswer.{Determines, OneAnswer}
 
 one-written : Determines writtenSays
@@ -41,6 +48,22 @@ unfolding linkSays
 one-link =
     determined _ linkOf link.Refused
     (elim [ link.Success ↦ refl | link.InvalidBinding ↦ refl | link.TableFull ↦ refl | link.Refused why ↦ refused-back link.Refused why ])
+
+-- the answer that says a record, or none
+abbrev endpointFrom : Option EndpointDescriptor → OptionEndpoint
+endpointFrom (some e) = optional.Some e
+endpointFrom none = optional.None
+
+endpoint-back : (r : OptionEndpoint) → endpointFrom (endpointSays r) ≡ r
+unfolding endpointSays
+endpoint-back (optional.Some e) = refl
+endpoint-back optional.None = refl
+
+one-matching : Determines matchingSays
+unfolding matchingSays
+one-matching =
+    determined _ (λ n. matching.Matched (record { written = n })) matching.Refused
+    (elim [ matching.Matched m ↦ refl | matching.Refused why ↦ refused-back matching.Refused why ])
 
 pub one-answer : OneAnswer
 unfolding listsSays nodeSays powerSays simpleSays nwkAddrReqSays ieeeAddrReqSays addrOfInterestReqSays addrOfInterestSays simpleDescReqSays matchDescReqSays bindReqSays mgmtLeaveReqSays
@@ -60,10 +83,13 @@ one-answer =
       matchReq = determined _ matchReq.Request matchReq.Refused (elim [ matchReq.Request q ↦ refl | matchReq.Refused why ↦ refused-back matchReq.Refused why ]);
       bindReq = determined _ bindReq.Request bindReq.Refused (elim [ bindReq.Request q ↦ refl | bindReq.Refused why ↦ refused-back bindReq.Refused why ]);
       leaveReq = determined _ leaveReq.Request leaveReq.Refused (elim [ leaveReq.Request q ↦ refl | leaveReq.Refused why ↦ refused-back leaveReq.Refused why ]);
+      endpoint = λ a b e. sym (endpoint-back a) ∙ ap endpointFrom e ∙ endpoint-back b;
+      matching = one-matching;
       writer = λ o before r s after later p q. let (told, left) = one-wrote o before _ _ after later p q in (one-written r s told, left);
       linker =
           λ o t r s p q.
           let told = one-link (r .status) (s .status) (p .said ∙ sym (q .said)) in
           let left = p .left ∙ sym (q .left) in
           λ i. record { table = left i; status = told i };
+      matcher = λ o before r s after later p q. let (told, left) = one-begun o before _ _ after later p q in (one-matching r s told, left);
     }

@@ -3,7 +3,7 @@
 use Prim.Native.Nat.{ℕ}
 use mathlib.Core.Path.{_≡_}
 use mathlib.Core.List.{List}
-use Rattle.zigbee_types.specs.Outcome.{Outcome, Wrote}
+use Rattle.zigbee_types.specs.Outcome.{Outcome, Wrote, Begun}
 use Rattle.zigbee_types.specs.Answers.{writtenSays, listsSays}
 use Rattle.zigbee_types.specs.declared.Written.{Written}
 use Rattle.node_descriptor.specs.NodeDescriptor.{nodeSays}
@@ -15,13 +15,16 @@ use Rattle.aps_binding_table.specs.Table.{Leaves}
 use Rattle.aps_binding_table.specs.declared.binding.BindingTable.{BindingTable}
 use Rattle.aps_binding_table.specs.declared.binding.Linked.{Linked}
 use Rattle.zdo_requests.specs.Answers.{nwkAddrReqSays, ieeeAddrReqSays, addrOfInterestReqSays, addrOfInterestSays, simpleDescReqSays, matchDescReqSays, bindReqSays, mgmtLeaveReqSays}
+use Rattle.zdo_device.specs.Tables.{endpointSays}
+use Rattle.zdo_matching.specs.Answers.{matchingSays}
+use Rattle.zdo_matching.specs.declared.descriptor.Matching.{Matching}
 
 -- what an answer says determines it
 abbrev pub Determines : {A B : Type 0} → (A → B) → Type 0
 Determines {A} says = (a b : A) → says a ≡ says b → a ≡ b
 
--- so it is with each enum that holds an answer or a refusal; a writer's contract determines its answer and the buffer, and a bind's
--- or an unbind's its answer and its table
+-- so it is with each enum that holds an answer or a refusal, and with a record or none; a writer's contract determines its answer and
+-- the buffer, so does matching's, and a bind's or an unbind's its answer and its table
 pub record OneAnswer : Type 0 where
   pub written : Determines writtenSays
   pub lists : Determines listsSays
@@ -37,6 +40,8 @@ pub record OneAnswer : Type 0 where
   pub matchReq : Determines matchDescReqSays
   pub bindReq : Determines bindReqSays
   pub leaveReq : Determines mgmtLeaveReqSays
+  pub endpoint : Determines endpointSays
+  pub matching : Determines matchingSays
   pub writer :
       (o : Outcome (List ℕ)) (before : List ℕ) (r s : Written) (after later : List ℕ)
       → Wrote o before (writtenSays r) after
@@ -47,3 +52,8 @@ pub record OneAnswer : Type 0 where
       → Leaves o t (linkSays (r .status)) (r .table)
       → Leaves o t (linkSays (s .status)) (s .table)
       → r ≡ s
+  pub matcher :
+      (o : Outcome (List ℕ)) (before : List ℕ) (r s : Matching) (after later : List ℕ)
+      → Begun o before (matchingSays r) after
+      → Begun o before (matchingSays s) later
+      → (r ≡ s) × (after ≡ later)
