@@ -3,10 +3,11 @@ use mathlib.Core.Path.{_≡_}
 use mathlib.Core.List.{List, [], _∷_, map}
 use Rattle.demands.specs.Cases.{Case}
 use Rattle.demands.specs.CounterCases.{K1, K2, K3, K4, K5, K6, K7, K8, K9, K10, K11, Sample}
-use Rattle.demands.specs.DispatchCases.{NwkAddr, IeeeAddr, Elsewhere, Ours, Linking, Shifting, RefusalOrder, Left, Telling}
+use Rattle.demands.specs.DispatchCases.{NwkAddr, IeeeAddr, Elsewhere, Ours, Sequence, HostTables, Linking, Shifting, RefusalOrder, Left, Telling}
 use Rattle.demands.specs.RequestCases.{AddrPayloads, InterestPayloads, MatchPayloads, BindPayloads, RequestedEntries, LeavePayloads}
 use Rattle.demands.specs.ReplyCases.{DescriptorReplies, ListReplies, SimpleReplies, AddressReplies, StatusReplies}
-use Rattle.demands.specs.DeviceCases.{Matching, Repeated, LongList, Parts, TableChecks}
+use Rattle.demands.specs.DeviceCases.{Matching, Repeated, Records, Supported, Numbers, NoRecords, LongList, Parts, TableChecks, RecordChecks, Crowded}
+use Rattle.demands.specs.MatchingCases.{MatchingAnswers, Profiles, BothLists, PlaceChecks, Buffers}
 use Rattle.demands.specs.BindingCases.{Equality, Formed, LinkStatuses, Links, LeftTables, Counted}
 use Rattle.demands.specs.ReaderCases.{ReadDescriptors, ReadLists, ReadSimple, ReadAddresses, DefaultNode, ReservedNumbers, NamedNumbers, SourceSets, FlagBits, StatusCodes}
 
@@ -14,10 +15,11 @@ use Rattle.demands.specs.ReaderCases.{ReadDescriptors, ReadLists, ReadSi
 unfoldable pub cases : List Case
 cases =
     K1 ∷ K2 ∷ K3 ∷ K4 ∷ K5 ∷ K6 ∷ K7 ∷ K8 ∷ K9 ∷ K10 ∷ K11 ∷ Sample
-    ∷ NwkAddr ∷ IeeeAddr ∷ Elsewhere ∷ Ours ∷ Linking ∷ Shifting ∷ RefusalOrder ∷ Left ∷ Telling
+    ∷ NwkAddr ∷ IeeeAddr ∷ Elsewhere ∷ Ours ∷ Sequence ∷ HostTables ∷ Linking ∷ Shifting ∷ RefusalOrder ∷ Left ∷ Telling
     ∷ AddrPayloads ∷ InterestPayloads ∷ MatchPayloads ∷ BindPayloads ∷ RequestedEntries ∷ LeavePayloads
     ∷ DescriptorReplies ∷ ListReplies ∷ SimpleReplies ∷ AddressReplies ∷ StatusReplies
-    ∷ Matching ∷ Repeated ∷ LongList ∷ Parts ∷ TableChecks
+    ∷ Matching ∷ Repeated ∷ Records ∷ Supported ∷ Numbers ∷ NoRecords ∷ LongList ∷ Parts ∷ TableChecks ∷ RecordChecks ∷ Crowded
+    ∷ MatchingAnswers ∷ Profiles ∷ BothLists ∷ PlaceChecks ∷ Buffers
     ∷ Equality ∷ Formed ∷ LinkStatuses ∷ Links ∷ LeftTables ∷ Counted
     ∷ ReadDescriptors ∷ ReadLists ∷ ReadSimple ∷ ReadAddresses ∷ DefaultNode ∷ ReservedNumbers ∷ NamedNumbers ∷ SourceSets ∷ FlagBits ∷ StatusCodes
     ∷ []

@@ -119,6 +119,95 @@ Ours =
           ∷ [];
     }
 
+-- The number of a request is the number of its reply: each request about us; each about another device, with a bind and an unbind
+-- from there
+unfoldable pub Sequence : Case
+Sequence =
+    record {
+      says =
+          map (λ a. mapped (take 2) (heard a))
+          (run ours (emptyTable 32)
+          (asked 0x0000 (0x91 ∷ drop 1 (nwkAddr 0x00))
+          ∷ asked 0x0001 (0x91 ∷ 0x34 ∷ 0x12 ∷ 0x00 ∷ [])
+          ∷ asked 0x0002 (0x91 ∷ 0x34 ∷ 0x12 ∷ [])
+          ∷ asked 0x0003 (0x91 ∷ 0x34 ∷ 0x12 ∷ [])
+          ∷ asked 0x0004 (0x91 ∷ 0x34 ∷ 0x12 ∷ 0x01 ∷ [])
+          ∷ asked 0x0005 (0x91 ∷ 0x34 ∷ 0x12 ∷ [])
+          ∷ asked 0x0006 (0x91 ∷ 0x34 ∷ 0x12 ∷ 0x04 ∷ 0x01 ∷ 0x00 ∷ 0x00 ∷ [])
+          ∷ asked 0x0021 (0x91 ∷ drop 1 bindA)
+          ∷ asked 0x0022 (0x91 ∷ drop 1 bindA)
+          ∷ asked 0x0000 (0x91 ∷ replicate 8 0xF1 ++ 0x00 ∷ [])
+          ∷ asked 0x0001 (0x91 ∷ 0x78 ∷ 0x56 ∷ 0x00 ∷ [])
+          ∷ asked 0x0002 (0x91 ∷ 0x78 ∷ 0x56 ∷ [])
+          ∷ asked 0x0003 (0x91 ∷ 0x78 ∷ 0x56 ∷ [])
+          ∷ asked 0x0004 (0x91 ∷ 0x78 ∷ 0x56 ∷ 0x01 ∷ [])
+          ∷ asked 0x0005 (0x91 ∷ 0x78 ∷ 0x56 ∷ [])
+          ∷ asked 0x0006 (0x91 ∷ 0x78 ∷ 0x56 ∷ 0x04 ∷ 0x01 ∷ 0x00 ∷ 0x00 ∷ [])
+          ∷ asked 0x0021 (0x91 ∷ 0x09 ∷ drop 2 bindA)
+          ∷ asked 0x0022 (0x91 ∷ 0x09 ∷ drop 2 bindA)
+          ∷ []));
+      expected =
+          answer (0x8000 ∷ 0x91 ∷ [])
+          ∷ answer (0x8001 ∷ 0x91 ∷ [])
+          ∷ answer (0x8002 ∷ 0x91 ∷ [])
+          ∷ answer (0x8003 ∷ 0x91 ∷ [])
+          ∷ answer (0x8004 ∷ 0x91 ∷ [])
+          ∷ answer (0x8005 ∷ 0x91 ∷ [])
+          ∷ answer (0x8006 ∷ 0x91 ∷ [])
+          ∷ answer (0x8021 ∷ 0x91 ∷ [])
+          ∷ answer (0x8022 ∷ 0x91 ∷ [])
+          ∷ answer (0x8000 ∷ 0x91 ∷ [])
+          ∷ answer (0x8001 ∷ 0x91 ∷ [])
+          ∷ answer (0x8002 ∷ 0x91 ∷ [])
+          ∷ answer (0x8003 ∷ 0x91 ∷ [])
+          ∷ answer (0x8004 ∷ 0x91 ∷ [])
+          ∷ answer (0x8005 ∷ 0x91 ∷ [])
+          ∷ answer (0x8006 ∷ 0x91 ∷ [])
+          ∷ answer (0x8021 ∷ 0x91 ∷ [])
+          ∷ answer (0x8022 ∷ 0x91 ∷ [])
+          ∷ [];
+    }
+
+-- a host whose records are endpoints 1 and 2, the first of them in use
+abbrev pub halfHost : Host
+halfHost = hostOf (deviceOf (endpoint1 ∷ endpoint2 ∷ []) 1) ourPools
+
+-- a host of 32 records that match K7's request
+abbrev pub fullHost : Host
+fullHost = hostOf (deviceOf (replicate 32 endpoint1) 32) ourPools
+
+-- K7's request
+abbrev pub matchA : List ℕ
+matchA = 0x09 ∷ 0x34 ∷ 0x12 ∷ 0x04 ∷ 0x01 ∷ 0x01 ∷ 0x02 ∷ 0x04 ∷ 0x00 ∷ []
+
+-- A record behind the count answers for nothing: the active list, its simple reply, a match that it has too, and a bind from it. A
+-- list of 32 is whole: the reply's cluster and its length, and a buffer one byte short. An unknown cluster with a pool that is too
+-- short, and with one of 513 clusters.
+unfoldable pub HostTables : Case
+HostTables =
+    record {
+      says =
+          triedOn halfHost (emptyTable 32) 0x0005 (0x07 ∷ 0x34 ∷ 0x12 ∷ []) 128
+          ∷ triedOn halfHost (emptyTable 32) 0x0004 (0x07 ∷ 0x34 ∷ 0x12 ∷ 0x02 ∷ []) 128
+          ∷ triedOn halfHost (emptyTable 32) 0x0006 (0x07 ∷ 0x34 ∷ 0x12 ∷ 0x04 ∷ 0x01 ∷ 0x01 ∷ 0x00 ∷ 0x00 ∷ 0x00 ∷ []) 128
+          ∷ triedOn halfHost (emptyTable 32) 0x0021 (take 9 bindA ++ 0x02 ∷ drop 10 bindA) 128
+          ∷ mapped (λ xs. take 6 xs ++ length xs ∷ []) (triedOn fullHost (emptyTable 32) 0x0006 matchA 37)
+          ∷ triedOn fullHost (emptyTable 32) 0x0006 matchA 36
+          ∷ triedOn (hostOf ourDescriptors (record { inputs = ourPools .inputs; outputs = [] })) (emptyTable 32) 0x0007 [] 0
+          ∷ triedOn (hostOf ourDescriptors (record { inputs = replicate 513 0x0006; outputs = ourPools .outputs })) (emptyTable 32) 0x0007 [] 0
+          ∷ [];
+      expected =
+          answer (0x8005 ∷ 0x07 ∷ 0x00 ∷ 0x34 ∷ 0x12 ∷ 0x01 ∷ 0x01 ∷ [])
+          ∷ answer (0x8004 ∷ 0x07 ∷ 0x83 ∷ 0x34 ∷ 0x12 ∷ 0x00 ∷ [])
+          ∷ answer (0x8006 ∷ 0x07 ∷ 0x00 ∷ 0x34 ∷ 0x12 ∷ 0x01 ∷ 0x01 ∷ [])
+          ∷ answer (0x8021 ∷ 0x0A ∷ 0x82 ∷ [])
+          ∷ answer (0x8006 ∷ 0x09 ∷ 0x00 ∷ 0x34 ∷ 0x12 ∷ 0x20 ∷ 38 ∷ [])
+          ∷ refusal 5
+          ∷ refusal 1
+          ∷ refusal 1
+          ∷ [];
+    }
+
 -- the keys of the entries in the first three places, after requests
 abbrev pub firstKeys : List Asked → List ℕ
 firstKeys requests = joined (map key (take 3 (runTable ours (emptyTable 32) requests .entries)))

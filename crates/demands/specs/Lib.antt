@@ -5,6 +5,7 @@ pub mod DispatchCases
 pub mod RequestCases
 pub mod ReplyCases
 pub mod DeviceCases
+pub mod MatchingCases
 pub mod Calls
 pub mod History
 pub mod BindingCases
