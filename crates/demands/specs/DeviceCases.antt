@@ -10,7 +10,7 @@ use Rattle.zigbee_types.specs.Outcome.{Outcome, answer, refusal, mapped, begunL
 use Rattle.zigbee_types.specs.Addresses.{shortOf}
 use Rattle.zdo_requests.specs.declared.descriptor.MatchDescReq.{MatchDescReq}
 use Rattle.zdo_replies.specs.Replies.{listRsp}
-use Rattle.zdo_device.specs.Tables.{Pools, endpointRecord, endpointSays, supportsEndpoint, endpointClusters}
+use Rattle.zdo_device.specs.Tables.{Pools, pools, endpointRecord, endpointSays, supportsEndpoint, endpointClusters}
 use Rattle.zdo_matching.specs.Matching.{matchedRecords, matchingEndpoints}
 use Rattle.zdo_device_rsp.specs.TableReplies.{activeRecords, activeEpRsp, simpleDescRsp}
 use Rattle.zdo_device.specs.declared.descriptor.EndpointDescriptor.{EndpointDescriptor}
@@ -147,7 +147,7 @@ numbered = deviceOf (endpointAt 0 0 1 0 0 ∷ endpointAt 255 1 0 2 0 ∷ endpoin
 
 -- their clusters
 abbrev pub numberedPools : Pools
-numberedPools = record { inputs = 0x0006 ∷ []; outputs = 0x0019 ∷ 0x2006 ∷ [] }
+numberedPools = pools (0x0006 ∷ []) (0x0019 ∷ 0x2006 ∷ [])
 
 -- is there an endpoint: 9, 1 and 2 with a count of 33, 9 with one of 31; 2 and 1 of a number twice; 0, 255, 241 and 1 of those
 -- numbers
@@ -308,7 +308,7 @@ crowded n = deviceOf (endpointAt 1 0 29 0 0 ∷ endpointAt 2 29 1 0 0 ∷ []) n
 
 -- 29 inputs
 abbrev pub crowdedPools : Pools
-crowdedPools = record { inputs = replicate 29 0x0006; outputs = [] }
+crowdedPools = pools (replicate 29 0x0006) []
 
 -- All inputs and the output, the last input; five inputs of four, two of the last; two outputs of one, one behind the last. A bad
 -- record behind a good one: simple, matching and part of the good one, with both in use, and with one. The last of 32 records:
