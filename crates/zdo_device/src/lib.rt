@@ -1,2 +1,2 @@
-// The device's tables, and the replies made from them.
+// The device's tables: its endpoint records, and the pools that they point into.
 pub mod descriptor;
