@@ -46,8 +46,11 @@ struct Tables {
 }
 
 impl Tables {
-    /// Any tables, mostly small ones.
+    /// Any tables, mostly small ones, and now and then full ones.
     fn any(dice: &mut Dice) -> Tables {
+        if dice.one_in(32) {
+            return Tables::of_sizes(dice, [512, 512], 32);
+        }
         let pools = [(); 2].map(|()| dice.length(8, 512));
         let records = dice.length(4, 32);
         Tables::of_sizes(dice, pools, records)
