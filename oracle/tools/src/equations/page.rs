@@ -8,7 +8,7 @@ use std::path::Path;
 use super::Part;
 
 /// The crates whose definitions the equations cite.
-const CITED: [&str; 12] = [
+const CITED: [&str; 14] = [
     "zigbee_types",
     "node_flags",
     "node_descriptor",
@@ -21,6 +21,8 @@ const CITED: [&str; 12] = [
     "zdo_replies",
     "zdo_readers",
     "zdo_device",
+    "zdo_matching",
+    "zdo_device_rsp",
 ];
 
 /// These crates and all crates of the repository that they depend on, by its crates.txt.
