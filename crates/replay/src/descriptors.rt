@@ -5,7 +5,7 @@ use crate::node;
 use crate::power;
 use crate::simple;
 
-// Puts the answer to a question about descriptors. The place stays where the line is none.
+// Puts the answer to a question about descriptors, or about device tables. The place stays where the line is none.
 pub(crate) fn answer(
     line: &[u8],
     space: &mut [u8],

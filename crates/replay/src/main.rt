@@ -12,6 +12,7 @@ mod power;
 mod replies;
 mod requests;
 mod simple;
+mod tables;
 mod values;
 mod words;
 

@@ -1,5 +1,6 @@
 // The question about the simple descriptor (oracle/README.md, "Descriptors").
 use crate::out;
+use crate::tables;
 use crate::words;
 use crate::words::asks;
 use crate::words::u8_at;
@@ -9,7 +10,7 @@ use zigbee_types::Written;
 ghost use Prim.Native.Nat.{_+_, _≤_};
 ghost use lib.ListN.{length};
 
-// Puts the answer to a question about the simple descriptor. The place stays where the line is none.
+// Puts the answer to a question about the simple descriptor, or about device tables. The place stays where the line is none.
 pub(crate) fn answer(
     line: &[u8],
     space: &mut [u8],
@@ -20,7 +21,7 @@ pub(crate) fn answer(
     if asks(line, b"EndpointDescriptor::write e c c b") {
         return write(line, space, clusters, out, at);
     }
-    at
+    tables::answer(line, space, clusters, out, at)
 }
 
 // Puts the answer to a write: behind its name stand ENDPOINT CLUSTERS CLUSTERS BUFFER.

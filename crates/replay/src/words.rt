@@ -14,6 +14,7 @@
 //     N            a node
 //     P            a power
 //     B            an entry of the binding table
+//     T            endpoint records
 // What reads a word takes any word: one of another kind gives some number, or some bytes.
 use crate::values;
 ghost use Prim.Native.Nat.{_≤_, _<_};
@@ -75,6 +76,7 @@ fn is_of(word: &[u8], kind: u8) -> bool {
         b'N' => is_node(word),
         b'P' => is_power(word),
         b'B' => is_entry(word),
+        b'T' => is_records(word),
         _ => false,
     }
 }
@@ -180,6 +182,17 @@ pub(crate) fn is_entry(word: &[u8]) -> bool {
         3 => is_hex(word, 26),
         _ => false,
     }
+}
+
+// Whether a word says endpoint records: 28 digits for each, or `-` for none.
+fn is_records(word: &[u8]) -> bool {
+    if !is_bytes(word) {
+        return false;
+    }
+    if word.len() == 1 {
+        return true;
+    }
+    word.len() % 28 == 0
 }
 
 // Whether a word is a number in decimal, of at most nine digits, and without a zero in front that it does not need.
