@@ -225,8 +225,8 @@ fn simple_desc<'a>(
 }
 
 // The device whose records a word says. Behind those stand records of this endpoint and profile that have the whole of both pools,
-// of so many clusters: no answer may go by them, nor by the
-// device's node and power. Of more than 32 records the first are held, and the count says all.
+// of so many clusters: no answer may go by them, nor by the device's node and power. Of more than 32 records the first are held,
+// and the count says all.
 fn device_of(
     word: &[u8],
     endpoint: u8,
