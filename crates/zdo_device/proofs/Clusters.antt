@@ -8,7 +8,7 @@ use lib.Dec.{leb}
 use lib.ListN.{length, take, drop}
 use borrow.Author.Tests.{leb-true}
 use Rattle.zigbee_types.specs.Lists.{part, option}
-use Rattle.zigbee_types.proofs.Scans.{denied, granted}
+use Rattle.zigbee_types.proofs.Scans.{said-no, said-yes}
 use Rattle.zdo_device.specs.Tables.{Pools, endpointRecord, endpointSays, supportsEndpoint, recordFits, goodDevice, endpointOf, clustersOf, endpointClusters}
 use Rattle.zdo_device.specs.declared.descriptor.EndpointDescriptor.{EndpointDescriptor}
 use Rattle.zdo_device.specs.declared.descriptor.DeviceDescriptorConfig.{DeviceDescriptorConfig}
@@ -48,18 +48,18 @@ module _ (p : Pools) (d : DeviceDescriptorConfig) (s : Side) (n : ℕ) (t : Bool
   -- none, where the tables are not good
   pub clusters-bad : not t ≡ true → [] ≡ endpointClusters p d s n
   unfolding endpointClusters
-  clusters-bad bad = rw (denied is bad)
+  clusters-bad bad = rw (said-no is bad)
 
   module _ (fine : not t ≡ false) {q : OptionEndpoint} (f : endpointSays q ≡ endpointRecord d n) where
     -- none, where there is no record
     pub clusters-none : q ≡ None → [] ≡ endpointClusters p d s n
     unfolding endpointClusters option endpointSays
-    clusters-none e = rw (granted is fine, ← f, e)
+    clusters-none e = rw (said-yes is fine, ← f, e)
 
     -- otherwise those of the record that is found
     pub clusters-found : {e : EndpointDescriptor} {xs : List ℕ} → q ≡ Some e → xs ≡ clustersOf s (endpointOf p e) → xs ≡ endpointClusters p d s n
     unfolding endpointClusters option endpointSays
-    clusters-found e h = rw (granted is fine, ← f, e) h
+    clusters-found e h = rw (said-yes is fine, ← f, e) h
 
 -- a number is supported where a record is found
 module _ (d : DeviceDescriptorConfig) (n : ℕ) {q : OptionEndpoint} (f : endpointSays q ≡ endpointRecord d n) where

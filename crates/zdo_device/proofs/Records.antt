@@ -10,7 +10,7 @@ use lib.ListN.{length, getD, take, drop, drop-of-length-le, length-take}
 use lib.Seq.{drop-cons, take-suc, getD-take}
 use borrow.Author.Tests.{eq-eqb, ne-eqb, leb-true, le-leb}
 use Rattle.zigbee_types.specs.Lists.{all, find}
-use Rattle.zigbee_types.proofs.Scans.{all-left, all-here, all-next, all-end, find-here, find-next, find-end, find-all, denied, granted}
+use Rattle.zigbee_types.proofs.Scans.{all-left, all-here, all-next, all-end, find-here, find-next, find-end, find-all, said-no, said-yes}
 use Rattle.zdo_device.specs.Tables.{Pools, used, endpointRecord, endpointSays, recordFits, goodSizes, goodRecords, goodDevice}
 use Rattle.zdo_device.specs.declared.descriptor.EndpointDescriptor.{EndpointDescriptor}
 use Rattle.zdo_device.specs.declared.descriptor.DeviceDescriptorConfig.{DeviceDescriptorConfig}
@@ -134,7 +134,7 @@ sizes-bad p d t e is bad = go (leb (d .«endpoint_count») 32) refl
     go false f = refl
     go true f =
         let same : length (used d) ≡ d .«endpoint_count» = omega (arith, used-counted d e, leb-true (d .«endpoint_count») 32 f) in
-        rw (same, denied is bad)
+        rw (same, said-no is bad)
 
 -- the records before the i-th fit
 pub record Checked (p : Pools) (d : DeviceDescriptorConfig) (n i : ℕ) : Type 0 where
@@ -150,7 +150,7 @@ pub checked-first :
     → Checked p d (d .«endpoint_count») 0
 unfolding goodDevice goodRecords
 checked-first p d t e is fine =
-    let sizes : goodSizes (d .«endpoint_count») (length (p .inputs)) (length (p .outputs)) ≡ true = granted is fine in
+    let sizes : goodSizes (d .«endpoint_count») (length (p .inputs)) (length (p .outputs)) ≡ true = said-yes is fine in
     let few : d .«endpoint_count» ≤ 32 = sizes-few _ _ _ sizes in
     let at : At d (d .«endpoint_count») 0 = at-first e (omega arith) in
     record { at = at; left = rw (at .counted, le-leb _ _ few, sizes) }
@@ -159,11 +159,11 @@ module _ {p : Pools} {d : DeviceDescriptorConfig} {n i : ℕ} (c : Checked p d n
   module _ (z : EndpointDescriptor) (h : i < n) {t : Bool} (is : t ≡ recordFits p (getD (d .endpoints) i z)) where
     -- the next one does not
     pub checked-here : not t ≡ true → false ≡ goodDevice p d
-    checked-here bad = sym (c .left ∙ all-here _ (at-here (c .at) z h) (denied is bad))
+    checked-here bad = sym (c .left ∙ all-here _ (at-here (c .at) z h) (said-no is bad))
 
     -- so does the next one
     pub checked-next : not t ≡ false → Checked p d n (i + 1)
-    checked-next fine = record { at = at-next (c .at) h; left = c .left ∙ all-next _ (at-here (c .at) z h) (granted is fine) }
+    checked-next fine = record { at = at-next (c .at) h; left = c .left ∙ all-next _ (at-here (c .at) z h) (said-yes is fine) }
 
   -- all do
   pub checked-end : n ≤ i → true ≡ goodDevice p d

@@ -152,7 +152,7 @@ fn good_sizes(count: usize, inputs: usize, outputs: usize) -> bool
     (count <= RECORDS) & (inputs <= CLUSTERS) & (outputs <= CLUSTERS)
 }
 
-// Where a part of a pool ends.
+// Where a part of a pool ends; the bound is twice that of a u16.
 fn end_of(start: u16, count: u16) -> usize
     ensures { λ r. ⌜ (r ≡ start + count) × (r < 131072) ⌝ }
 {

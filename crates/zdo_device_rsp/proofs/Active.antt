@@ -1,12 +1,12 @@
 -- The active reply: a header, how many records are in use, and their numbers. Assumes nothing.
 use Prim.Native.Nat.{ℕ, _+_, _≤_, _<_, min}
 use native.Mathlib.Omega.{arith}
-use mathlib.Core.Path.{_≡_, refl, ap, _∙_}
+use mathlib.Core.Path.{_≡_, ap, _∙_}
 use mathlib.Core.List.{List}
 use lib.ListN.{length, getD, length-map}
 use lib.Seq.{length-sets}
 use borrow.Author.Tests.{le-leb, lt-leb}
-use Rattle.zigbee_types.specs.Outcome.{mapped, fitted, written, Wrote}
+use Rattle.zigbee_types.specs.Outcome.{Wrote}
 use Rattle.zigbee_types.specs.Answers.{writtenSays}
 use Rattle.zigbee_types.specs.Bytes.{FieldPut}
 use Rattle.zigbee_types.specs.Layout.{laid, FieldsPut}
@@ -16,6 +16,7 @@ use Rattle.zigbee_types.specs.declared.ShortAddress.{ShortAddress}
 use Rattle.zigbee_types.specs.declared.Written.the-variants.{Length, Refused}
 use Rattle.zigbee_types.proofs.Fields.{put-counted}
 use Rattle.zigbee_types.proofs.Elements.{map-at}
+use Rattle.zigbee_types.proofs.Outcomes.{wrote-refused}
 use Rattle.zigbee_types.proofs.Entries.{EntriesPut, entries-first, entries-next, entries-all}
 use Rattle.zdo_replies.specs.Replies.{header, listRsp}
 use Rattle.zdo_desc_rsp.proofs.Written.{header-place}
@@ -39,8 +40,8 @@ pub active-many :
     (seq : ℕ) (a : ShortAddress) (d : DeviceDescriptorConfig) (out : List ℕ)
     → 32 < d .«endpoint_count»
     → Wrote (activeEpRsp seq a d) out (writtenSays (Refused BadTables)) out
-unfolding activeEpRsp writtenSays mapped fitted written
-active-many seq a d out h = rw (lt-leb _ _ h) (record { said = refl; left = refl })
+unfolding activeEpRsp writtenSays
+active-many seq a d out h = rw (lt-leb _ _ h) (wrote-refused 1 out)
 
 module _ (d : DeviceDescriptorConfig) (long : length (d .endpoints) ≡ 32) (few : d .«endpoint_count» ≤ 32) where
   used-few : length (used d) ≡ d .«endpoint_count»

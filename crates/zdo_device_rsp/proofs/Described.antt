@@ -20,10 +20,10 @@ use Rattle.zigbee_types.specs.declared.Refusal.the-variants.{BadTables}
 use Rattle.zigbee_types.specs.declared.ShortAddress.{ShortAddress}
 use Rattle.zigbee_types.specs.declared.Written.{Written}
 use Rattle.zigbee_types.specs.declared.Written.the-variants.{Length, Refused}
-use Rattle.zigbee_types.proofs.Outcomes.{refused, granted, wrote-answer}
+use Rattle.zigbee_types.proofs.Outcomes.{refused, granted, wrote-refused, wrote-answer}
 use Rattle.zigbee_types.proofs.Outcomes as outcomes
 use Rattle.zigbee_types.proofs.Runs.{laid-append}
-use Rattle.zigbee_types.proofs.Scans as scans
+use Rattle.zigbee_types.proofs.Scans.{said-no, said-yes}
 use Rattle.simple_descriptor.specs.SimpleDescriptor.{Endpoint, endpointWith, simpleDescriptor, clusterCount, simpleWritten}
 use Rattle.simple_descriptor.proofs.Written.{simple-length}
 use Rattle.zdo_replies.specs.Replies.{header, endpointList, listRsp, emptyRsp, describedRsp}
@@ -118,7 +118,7 @@ module _ (seq : ℕ) (a : ShortAddress) (e : Endpoint) where
       {before after : List ℕ} {r : Written} {why : Refusal} (out : List ℕ)
       → Wrote (simpleWritten e) before (writtenSays r) after
       → r ≡ Refused why
-      → length before ≡ 64
+      → 64 ≤ length before
       → Wrote (describedRsp seq a e) out (writtenSays (Refused why)) out
   unfolding writtenSays simpleWritten describedRsp andThen mapped fitted written
   desc-refused {before} {after} {r} {why} out w is room = go (leb (clusterCount e) 28) refl
@@ -166,7 +166,7 @@ module _ (seq : ℕ) (a : ShortAddress) (p : Pools) (d : DeviceDescriptorConfig)
       → Wrote (simpleRspOf seq a p d n) before told after
       → Wrote (simpleDescRsp seq a p d n) before told after
   unfolding simpleDescRsp
-  simple-good is fine w = rw (scans.granted is fine) w
+  simple-good is fine w = rw (said-yes is fine) w
 
 -- and of others: refusal 1
 pub simple-bad :
@@ -174,5 +174,5 @@ pub simple-bad :
     → t ≡ goodDevice p d
     → not t ≡ true
     → Wrote (simpleDescRsp seq a p d n) out (writtenSays (Refused BadTables)) out
-unfolding simpleDescRsp writtenSays mapped fitted written
-simple-bad seq a p d n out is bad = rw (scans.denied is bad) (record { said = refl; left = refl })
+unfolding simpleDescRsp writtenSays
+simple-bad seq a p d n out is bad = rw (said-no is bad) (wrote-refused 1 out)

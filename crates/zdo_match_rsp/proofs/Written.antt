@@ -1,4 +1,4 @@
--- A list of endpoints behind the header. Assumes nothing.
+-- Bytes behind a place of a buffer, and a list of bytes behind the header. Assumes nothing.
 use Prim.Native.Nat.{ℕ, _+_, _-_, _≤_, _<_, min}
 use native.Mathlib.Omega.{arith}
 use mathlib.Core.Path.{_≡_, sym, _∙_}

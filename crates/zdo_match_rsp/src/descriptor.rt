@@ -26,8 +26,7 @@ fn count_byte(count: usize) -> u8
     count as u8
 }
 
-// Appends raw bytes at a place, reporting a short buffer in place of writing: what stands before the place and the bytes behind it are
-// then written, and so many are told.
+// Appends raw bytes at a place and tells the place behind them, or reports a short buffer and writes nothing.
 fn append(out: &mut [u8], at: usize, bytes: &[u8]) -> Written
     requires { ⌜ at ≤ length (now out) ⌝ }
     ensures { λ r. ⌜ Wrote (answer (take at (now (out .entry)) ++ laid (map byte (now (bytes .entry))))) (now (out .entry)) (writtenSays r) (now (out .exit)) ⌝ }

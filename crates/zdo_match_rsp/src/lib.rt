@@ -1,2 +1,2 @@
-// The reply that is a list of endpoints (2.4.4.2.7).
+// Replies that carry a list of bytes behind its count, and the match reply's error (2.4.4.2.7).
 pub mod descriptor;

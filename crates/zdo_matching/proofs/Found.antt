@@ -9,7 +9,7 @@ use lib.Seq.{take-all}
 use Rattle.zigbee_types.specs.Lists.{all, filter}
 use Rattle.zigbee_types.specs.Outcome.{answer, refusal, mapped, begunLength, begun, Begun}
 use Rattle.zigbee_types.specs.declared.Refusal.the-variants.{BadTables, Malformed}
-use Rattle.zigbee_types.proofs.Scans.{filter-last, denied, granted}
+use Rattle.zigbee_types.proofs.Scans.{filter-last, said-no, said-yes}
 use Rattle.zdo_requests.specs.declared.descriptor.MatchDescReq.{MatchDescReq}
 use Rattle.zdo_device.specs.Tables.{Pools, used, recordFits, goodDevice, endpointOf, resolvedIn}
 use Rattle.zdo_device.specs.declared.descriptor.EndpointDescriptor.{EndpointDescriptor}
@@ -101,13 +101,13 @@ module _
   -- refusal 1
   pub refused-tables : not t ≡ true → Begun (matchingEndpoints p d q payload) before (matchingSays (matching.Refused BadTables)) before
   unfolding matchingSays matchingEndpoints
-  refused-tables bad = rw (denied is bad) (begun-refused 1 before)
+  refused-tables bad = rw (said-no is bad) (begun-refused 1 before)
 
   module _ (fine : not t ≡ false) {u : Bool} (places : u ≡ goodPlaces q payload) where
     -- refusal 3
     pub refused-places : not u ≡ true → Begun (matchingEndpoints p d q payload) before (matchingSays (matching.Refused Malformed)) before
     unfolding matchingSays matchingEndpoints matchedIn
-    refused-places bad = rw (granted is fine, denied places bad) (begun-refused 3 before)
+    refused-places bad = rw (said-yes is fine, said-no places bad) (begun-refused 3 before)
 
     -- otherwise what is found
     pub found-matched :
@@ -116,4 +116,4 @@ module _
         → Begun (answer (matchList (wanted q payload) (resolvedIn p (used d)))) before (answer (m .written)) after
         → Begun (matchingEndpoints p d q payload) before (matchingSays (matching.Matched m)) after
     unfolding matchingSays matchingEndpoints matchedIn
-    found-matched good m h = rw (granted is fine, granted places good) h
+    found-matched good m h = rw (said-yes is fine, said-yes places good) h

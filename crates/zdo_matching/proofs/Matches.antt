@@ -9,7 +9,7 @@ use lib.ListN.{length}
 use borrow.Author.Tests.{leb-true, leb-false, le-leb, lt-leb}
 use Rattle.zigbee_types.specs.Layout.{behind, entriesAt}
 use Rattle.zigbee_types.specs.declared.Places.{Places}
-use Rattle.zigbee_types.proofs.Scans.{denied, granted}
+use Rattle.zigbee_types.proofs.Scans.{said-no, said-yes}
 use Rattle.zdo_requests.specs.declared.descriptor.MatchDescReq.{MatchDescReq}
 use Rattle.zdo_device.specs.Tables.{Pools, endpointOf, clustersOf}
 use Rattle.zdo_device.specs.declared.descriptor.EndpointDescriptor.{EndpointDescriptor}
@@ -50,7 +50,7 @@ module _ (q : MatchDescReq) (payload : List ℕ) (p : Pools) (e : EndpointDescri
   -- another profile
   pub other-profile : not t ≡ true → false ≡ matches (wanted q payload) (endpointOf p e)
   unfolding matches wanted endpointOf
-  other-profile bad = rw (denied is bad)
+  other-profile bad = rw (said-no is bad)
 
   module _
       (fine : not t ≡ false)
@@ -61,7 +61,7 @@ module _ (q : MatchDescReq) (payload : List ℕ) (p : Pools) (e : EndpointDescri
     -- an input that is asked for
     pub by-input : i ≡ true → true ≡ matches (wanted q payload) (endpointOf p e)
     unfolding matches wanted endpointOf clustersOf
-    by-input y = rw (granted is fine, ← ins, ← a, y)
+    by-input y = rw (said-yes is fine, ← ins, ← a, y)
 
     -- no input: an output decides
     pub by-output :
@@ -72,4 +72,4 @@ module _ (q : MatchDescReq) (payload : List ℕ) (p : Pools) (e : EndpointDescri
         → o ≡ shared (entriesAt 2 payload (q .«output_clusters»)) own′
         → o ≡ matches (wanted q payload) (endpointOf p e)
     unfolding matches wanted endpointOf clustersOf
-    by-output n outs b = rw (granted is fine, ← ins, ← a, n, ← outs) b
+    by-output n outs b = rw (said-yes is fine, ← ins, ← a, n, ← outs) b

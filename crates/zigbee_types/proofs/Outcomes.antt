@@ -28,6 +28,11 @@ mapped-granted f false a n = refl
 
 -- ---- writers
 
+-- a refusal is told, and leaves the buffer as it was
+pub wrote-refused : (n : ℕ) (before : List ℕ) → Wrote (refusal n) before (refusal n) before
+unfolding mapped fitted written
+wrote-refused n before = record { said = refl; left = refl }
+
 -- bytes stand at the front of a buffer, before what stood behind them, and their length is told
 pub record Stands (bytes before : List ℕ) (told : ℕ) (after : List ℕ) : Type 0 where
   pub long : told ≡ length bytes

@@ -1,5 +1,5 @@
--- One step of a search through a list from the front: the first element decides, or what is behind it does. Each law is over what
--- is left of a list. Assumes nothing.
+-- Searches through a list: a step from the front, where the first element decides or what is behind it does; one more element at the
+-- end; and what a test of all says of one. And a test that is turned round. Assumes nothing.
 use Prim.Native.Nat.{ℕ, zero, suc}
 use mathlib.Core.Path.{_≡_, refl, sym, _∙_}
 use mathlib.Core.Bool.{Bool, true, false, not, cond, and-eq-true-iff}
@@ -77,8 +77,8 @@ module _ {A : Type 0} (p : A → Bool) where
 
 -- ---- a test that a callee made, and that its caller turned round
 
-pub denied : {t b : Bool} → t ≡ b → not t ≡ true → b ≡ false
-denied e h = sym e ∙ not-true _ h
+pub said-no : {t b : Bool} → t ≡ b → not t ≡ true → b ≡ false
+said-no e h = sym e ∙ not-true _ h
 
-pub granted : {t b : Bool} → t ≡ b → not t ≡ false → b ≡ true
-granted e h = sym e ∙ not-false _ h
+pub said-yes : {t b : Bool} → t ≡ b → not t ≡ false → b ≡ true
+said-yes e h = sym e ∙ not-false _ h

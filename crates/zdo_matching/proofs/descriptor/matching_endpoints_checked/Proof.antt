@@ -15,7 +15,7 @@ Inv-loop inputs outputs request payload out₀ device count written₀ i₀ out 
 abbrev μ-loop : tie.MeasureT-loop
 μ-loop inputs outputs request payload out₀ device count written₀ i₀ out written i = count - i
 
-ruleset laws = (needs, length-mapped, found-first, found-fits, found-skip, found-more, found-full, found-end)
+ruleset laws = (needs, length-mapped, found-first, found-fits, found-skip, found-full)
 
 pub matching-endpoints-checked-spec : {M : Type 1} → statement M
 matching-endpoints-checked-spec =
@@ -31,10 +31,10 @@ matching-endpoints-checked-spec =
     (λ c. search laws)  -- slice-write-out
     (λ c. search laws)  -- add-written
     (λ c. search laws)  -- loop-less
-    (λ c. search laws)  -- loop-again
+    (λ c. found-more (c .before .before .before .before .before .loop .inv) _ (search needs) (c .before .before .record-matches .ensures) (search needs) (search needs))  -- loop-again
     (λ c. search laws)  -- loop-less-2
     (λ c. search laws)  -- loop-again-2
     (λ c. search laws)  -- loop-less-3
     (λ c. search laws)  -- loop-again-3
     (λ c. search laws)  -- same-length
-    (λ c. search laws))  -- returns
+    (λ c. found-end (c .before .loop .inv) (search needs)))  -- returns

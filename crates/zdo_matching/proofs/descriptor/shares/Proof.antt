@@ -7,7 +7,7 @@ use mathlib.Core.Path.{_≡_}
 use mathlib.Core.Bool.{false}
 use lib.ListN.{length}
 use Rattle.zigbee_types.specs.Layout.{behind}
-use Rattle.zdo_matching.proofs.Shared.{Asked, asked-first, asked-end, asked-next, asked-here, Among, among-first, among-next}
+use Rattle.zdo_matching.proofs.Shared.{Asked, asked-first, asked-end, asked-next, asked-here, Among, among-next}
 use Rattle.zdo_matching.proofs.descriptor.shares.Statement.{statement}
 use Rattle.zdo_matching.proofs.descriptor.shares.Tie as tie
 
@@ -23,7 +23,7 @@ Inv-search payload requested own found₀ k₀ found k = (found ≡ false) × As
 abbrev μ-search : tie.MeasureT-search
 μ-search payload requested own found₀ k₀ found k = requested .count - k
 
-ruleset laws = (needs, asked-first, asked-end, asked-here, among-first)
+ruleset laws = (needs, asked-first, asked-end, asked-here)
 
 pub shares-spec : {M : Type 1} → statement M
 unfolding behind

@@ -23,8 +23,8 @@ endpoint-spec =
     μ-loop
     (λ c κs. search laws)  -- in-use-requires
     (λ c. search laws)  -- loop-holds
-    (λ c. search laws)  -- mul-record
-    (λ c. search laws)  -- element-copy-out-record
+    (λ c. search laws)  -- mul-ep
+    (λ c. search laws)  -- element-copy-out-ep
     (λ c. search laws)  -- returns
     (λ c. search laws)  -- add-i
     (λ c. search laws)  -- loop-less

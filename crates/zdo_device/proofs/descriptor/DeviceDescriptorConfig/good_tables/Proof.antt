@@ -25,8 +25,8 @@ good-tables-spec =
     (λ c κs. search laws)  -- good-sizes-requires
     (λ c. search laws)  -- returns
     (λ c. search laws)  -- loop-holds
-    (λ c. search laws)  -- mul-record
-    (λ c. search laws)  -- element-copy-out-record
+    (λ c. search laws)  -- mul-ep
+    (λ c. search laws)  -- element-copy-out-ep
     (λ c κs. search laws)  -- fits-requires
     (λ c. search laws)  -- returns-2
     (λ c. search laws)  -- add-i
