@@ -58,8 +58,8 @@ abbrev pub fourInputs : DeviceDescriptorConfig
 fourInputs = deviceOf (endpointAt 6 0 4 1 0 ∷ []) 1
 
 -- An input of endpoint 2 and the output of endpoint 1; an input and the output of endpoint 1; an output asked for that is an input;
--- the output with profile 0xFFFF; cluster 0xFFFF, as an input and as an output. The fourth input of four, asked for as the fourth of four; four that it has not, with
--- the low byte of one that it has, the high byte, and both exchanged among them.
+-- the output with profile 0xFFFF; cluster 0xFFFF, as an input and as an output. The fourth input of four, asked for as the fourth of
+-- four; four that it has not, with the low byte of one that it has, the high byte, and both exchanged among them.
 unfoldable pub BothLists : Case
 BothLists =
     record {
