@@ -1,5 +1,16 @@
 // The one reader of a reply that the Rust has (000).
+use byte::read_u8;
+use byte::read_u16;
+use zdo_replies::descriptor::STATUS_SUCCESS;
+use zigbee_types::Refusal;
 use zigbee_types::ShortAddress;
+ghost use mathlib.Core.Path.{_≡_};
+ghost use mathlib.Core.Bool.{_&&_};
+ghost use lib.Dec.{eqb, leb};
+ghost use lib.ListN.{length};
+ghost use Rattle.zigbee_types.specs.Statuses.{SUCCESS};
+ghost use Rattle.zdo_readers.specs.Readers.{serverMaskIn, nodeDescRspIn, stackRevisionOf};
+ghost use Rattle.zdo_readers.specs.Answers.{nodeDescRspSays};
 
 // A parsed Node_Desc_rsp (2.4.4.2.3).
 pub struct NodeDescRsp {
@@ -21,4 +32,57 @@ pub enum OptionServerMask {
 pub enum OptionStackRevision {
     Some(u8),
     None,
+}
+
+// What `parse_node_desc_rsp` answers: the reply, or why there is none.
+pub enum NodeDescRspRead {
+    Reply(NodeDescRsp),
+    Refused(Refusal),
+}
+
+impl NodeDescRsp {
+    // Stack revision the responder complies with, taken from the upper seven bits of the server mask (2.3.2.3.10); `None` without
+    // a mask.
+    pub fn stack_revision(self) -> OptionStackRevision
+        ensures { λ r. ⌜ r ≡ stackRevisionOf (self .«server_mask») ⌝ }
+    {
+        let server_mask = self.server_mask;
+        match server_mask {
+            OptionServerMask::Some(mask) => OptionStackRevision::Some((mask >> 9) as u8),
+            OptionServerMask::None => OptionStackRevision::None,
+        }
+    }
+}
+
+// Parses a Node_Desc_rsp (2.4.4.2.3): seq, status, NWKAddrOfInterest(2), and of the node descriptor the server mask.
+pub fn parse_node_desc_rsp(asdu: &[u8]) -> NodeDescRspRead
+    ensures { λ r. ⌜ nodeDescRspSays r ≡ nodeDescRspIn (now (asdu .entry)) ⌝ }
+{
+    if asdu.len() < 4 {
+        return NodeDescRspRead::Refused(Refusal::Malformed);
+    }
+    let seq = read_u8(asdu, 0);
+    let status = read_u8(asdu, seq.next);
+    let nwk_addr_of_interest = read_u16(asdu, status.next);
+    let server_mask = server_mask(asdu, status.value);
+    NodeDescRspRead::Reply(NodeDescRsp {
+        seq: seq.value,
+        status: status.value,
+        nwk_addr_of_interest: ShortAddress(nwk_addr_of_interest.value),
+        server_mask,
+    })
+}
+
+// The server mask, which sits 8 octets into the node descriptor (2.3.2.3); absent unless the status is SUCCESS.
+fn server_mask(asdu: &[u8], status: u8) -> OptionServerMask
+    ensures { λ r. ⌜ r ≡ serverMaskIn (eqb status SUCCESS && leb 14 (length (now (asdu .entry)))) (now (asdu .entry)) ⌝ }
+{
+    if status != STATUS_SUCCESS {
+        return OptionServerMask::None;
+    }
+    if asdu.len() < 14 {
+        return OptionServerMask::None;
+    }
+    let mask = read_u16(asdu, 12);
+    OptionServerMask::Some(mask.value)
 }

@@ -1,0 +1,67 @@
+-- Replies that begin with the header: what follows from what its reader said, and a descriptor behind it. Assumes nothing.
+use Prim.Native.Nat.{ℕ, _-_, _≤_}
+use native.Mathlib.Omega.{arith}
+use mathlib.Core.Path.{_≡_, sym}
+use mathlib.Core.Bool.{true}
+use mathlib.Core.List.{List}
+use lib.ListN.{length, take, drop, length-drop}
+use lib.Seq.{take-all}
+use lib.Dec.{eqb, leb}
+use borrow.Author.Tests.{ne-eqb, leb-true}
+use Rattle.zigbee_types.specs.Outcome.{Outcome, answer, refusal, andThen, mapped, needing}
+use Rattle.zigbee_types.specs.Layout.{parsed, size}
+use Rattle.zigbee_types.specs.Refusals.{refusalNumber}
+use Rattle.zigbee_types.specs.Statuses.{SUCCESS}
+use Rattle.zigbee_types.specs.declared.Refusal.{Refusal}
+use Rattle.zigbee_types.proofs.Outcomes.{granted}
+use Rattle.zdo_readers.specs.Readers.{headerWidths, headerIn, describedIn}
+use Rattle.zdo_readers.specs.Answers.{headerSays}
+use Rattle.zdo_readers.specs.declared.readers.ReplyHeader.{ReplyHeader}
+use Rattle.zdo_readers.specs.declared.readers.ReplyHeaderRead.{ReplyHeaderRead}
+use Rattle.zdo_readers.specs.declared.readers.ReplyHeaderRead.the-variants.{Header, Refused}
+
+-- what the reader of the header said
+module _ (bytes : List ℕ) (read : ReplyHeaderRead) (said : headerSays read ≡ headerIn bytes) where
+  -- a reply without one is refused, whatever was to follow
+  pub headed-refused : {R : Type 0} (next : ReplyHeader → Outcome R) {why : Refusal} → read ≡ Refused why → refusal (refusalNumber why) ≡ andThen (headerIn bytes) next
+  unfolding headerSays andThen
+  headed-refused next e = rw (← said, e)
+
+  pub described-refused :
+      {D R : Type 0} (descriptorIn : List ℕ → Outcome D) (some : ReplyHeader → D → R) (none : ReplyHeader → R) {why : Refusal}
+      → read ≡ Refused why
+      → refusal (refusalNumber why) ≡ describedIn descriptorIn some none bytes
+  unfolding describedIn
+  described-refused descriptorIn some none e = headed-refused _ e
+
+  module _ {h : ReplyHeader} (e : read ≡ Header h) where
+    -- one with it is what follows
+    pub headed : {R : Type 0} (next : ReplyHeader → Outcome R) {told : Outcome R} → told ≡ next h → told ≡ andThen (headerIn bytes) next
+    unfolding headerSays andThen
+    headed next t = rw (← said, e) t
+
+    -- and has four bytes
+    pub header-long : 4 ≤ length bytes
+    unfolding headerSays headerIn headerWidths parsed size needing
+    header-long =
+        let (held, _) = granted (leb 4 (length bytes)) _ 3 (rw e at (sym said)) in
+        leb-true 4 (length bytes) held
+
+    module _ {D R : Type 0} (descriptorIn : List ℕ → Outcome D) (some : ReplyHeader → D → R) (none : ReplyHeader → R) where
+      -- with another status there is no descriptor
+      pub described-none : {r : R} → (h .status ≡ SUCCESS → ⊥) → r ≡ none h → answer r ≡ describedIn descriptorIn some none bytes
+      unfolding describedIn
+      described-none other is = headed _ (rw (ne-eqb _ _ other, is))
+
+      -- with SUCCESS it is what was read from byte 4 on
+      pub described-some :
+          {told : Outcome R} {d : Outcome D}
+          → h .status ≡ SUCCESS
+          → told ≡ mapped (some h) d
+          → d ≡ descriptorIn (take (length bytes - 4) (drop 4 bytes))
+          → told ≡ describedIn descriptorIn some none bytes
+      unfolding describedIn
+      described-some ok t r =
+          let whole : take (length bytes - 4) (drop 4 bytes) ≡ drop 4 bytes = take-all (length bytes - 4) (drop 4 bytes) (rw length-drop (omega arith)) in
+          let yes : eqb (h .status) SUCCESS ≡ true = rw ok in
+          headed _ (rw (yes, ← whole, ← r) t)

@@ -1,0 +1,16 @@
+-- `NodeDescRsp::stack_revision` meets its contract: it is that of the mask, or none. Assumes nothing.
+use borrow.Author.Needs.{needs}
+use Rattle.zdo_readers.specs.Readers.{stackRevisionOf}
+use Rattle.zdo_readers.proofs.descriptor.NodeDescRsp.stack_revision.Statement.{statement}
+use Rattle.zdo_readers.proofs.descriptor.NodeDescRsp.stack_revision.Tie as tie
+
+ruleset laws = (needs)
+
+pub stack-revision-spec : {M : Type 1} → statement M
+unfolding stackRevisionOf
+stack-revision-spec =
+    tie.close (tie.spec (λ c. search laws)  -- enum-known-server-mask
+    (λ c. search laws)  -- cast-t6
+    (λ c. search laws)  -- enum-told
+    (λ c. cc)  -- returns
+    (λ c. cc))  -- returns-2
