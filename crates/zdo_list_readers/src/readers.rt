@@ -8,7 +8,7 @@ use zdo_replies::descriptor::STATUS_SUCCESS;
 use zigbee_types::Places;
 use zigbee_types::Refusal;
 ghost use mathlib.Core.Path.{_≡_};
-ghost use Prim.Native.Nat.{_+_, _≤_};
+ghost use Prim.Native.Nat.{_+_, _^_, _≤_, _<_};
 ghost use lib.ListN.{length};
 ghost use Rattle.zigbee_types.specs.Outcome.{mapped};
 ghost use Rattle.zigbee_types.specs.Layout.{behind};
@@ -161,7 +161,7 @@ impl SimpleReply {
 
 // A list in bytes that begin at a place of the reply, counted from the start of the reply.
 fn shifted(at: usize, list: Places) -> Places
-    requires { ⌜ at + list .start ≤ 65535 ⌝ }
+    requires { ⌜ at + list .start < 2 ^ 63 ⌝ }
     ensures { λ r. ⌜ r ≡ shifted at list ⌝ }
 {
     Places {
@@ -172,7 +172,7 @@ fn shifted(at: usize, list: Places) -> Places
 
 // A descriptor in such bytes.
 fn shifted_fields(at: usize, fields: SimpleDescriptorFields) -> SimpleDescriptorFields
-    requires { ⌜ (at + fields .«input_clusters» .start ≤ 65535) × (at + fields .«output_clusters» .start ≤ 65535) ⌝ }
+    requires { ⌜ (at + fields .«input_clusters» .start < 2 ^ 63) × (at + fields .«output_clusters» .start < 2 ^ 63) ⌝ }
     ensures { λ r. ⌜ r ≡ shiftedFields at fields ⌝ }
 {
     let input_clusters = fields.input_clusters;
