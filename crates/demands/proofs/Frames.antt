@@ -17,7 +17,8 @@ use Rattle.simple_descriptor.specs.SimpleDescriptor.{Endpoint, clusterCount, si
 use Rattle.simple_descriptor.proofs.Written.{simple-length}
 use Rattle.zdo_requests.specs.Requests.{addrOfInterestWidths, addrOfInterestFields, nodeDescReq}
 use Rattle.zdo_replies.specs.Replies.{header, addrHeader, matchErrorFields, statusFields, nodeDescRsp, powerDescRsp, descriptorRspError, endpointList, listRsp, emptyRsp, matchDescRspError, describedRsp, addrRsp, addrRspSingle, addrRspExtended, statusRsp}
-use Rattle.zdo_readers.specs.Readers.{headerWidths, addrWidths, matchErrorWidths, statusWidths}
+use Rattle.zdo_readers.specs.Readers.{headerWidths, addrWidths, statusWidths}
+use Rattle.zdo_list_readers.specs.ListReaders.{matchErrorWidths}
 use Rattle.demands.specs.Frames.{OneLayout, ReplyLengths}
 
 pub one-layout : OneLayout

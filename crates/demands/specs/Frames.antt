@@ -17,7 +17,8 @@ use Rattle.node_descriptor.specs.declared.descriptor.NodeDescriptorConfig.{Node
 use Rattle.node_power_descriptor.specs.declared.descriptor.PowerDescriptorConfig.{PowerDescriptorConfig}
 use Rattle.zdo_requests.specs.Requests.{addrOfInterestWidths, addrOfInterestFields, nodeDescReq}
 use Rattle.zdo_replies.specs.Replies.{header, addrHeader, matchErrorFields, statusFields, nodeDescRsp, powerDescRsp, descriptorRspError, listRsp, emptyRsp, matchDescRspError, describedRsp, addrRsp, addrRspSingle, statusRsp}
-use Rattle.zdo_readers.specs.Readers.{headerWidths, addrWidths, matchErrorWidths, statusWidths}
+use Rattle.zdo_readers.specs.Readers.{headerWidths, addrWidths, statusWidths}
+use Rattle.zdo_list_readers.specs.ListReaders.{matchErrorWidths}
 
 -- where a frame, or the front of one, has a reader and a writer, both have one table of widths
 pub record OneLayout : Type 0 where

@@ -30,19 +30,20 @@ use Rattle.zdo_replies.specs.Codes.{bindCode, discoveryCode, leaveStatus}
 use Rattle.zdo_replies.specs.declared.descriptor.BindStatus.the-variants as bind
 use Rattle.zdo_replies.specs.declared.descriptor.DiscoveryError.the-variants as error
 use Rattle.zdo_replies.specs.declared.management.NlmeLeaveStatus.the-variants as leaving
-use Rattle.zdo_readers.specs.Readers.{nodeReplyIn, powerReplyIn, nodeDescRspIn, listReplyIn, matchReplyIn, simpleReplyIn, addrReplyIn, statusReplyIn}
+use Rattle.zdo_readers.specs.Readers.{nodeReplyIn, powerReplyIn, nodeDescRspIn, addrReplyIn, statusReplyIn}
 use Rattle.zdo_readers.specs.declared.descriptor.OptionServerMask.{OptionServerMask}
 use Rattle.zdo_readers.specs.declared.descriptor.OptionServerMask.the-variants as mask
 use Rattle.zdo_readers.specs.declared.readers.OptionNodeDescriptor.{OptionNodeDescriptor}
 use Rattle.zdo_readers.specs.declared.readers.OptionNodeDescriptor.the-variants as node
 use Rattle.zdo_readers.specs.declared.readers.OptionPowerDescriptor.{OptionPowerDescriptor}
 use Rattle.zdo_readers.specs.declared.readers.OptionPowerDescriptor.the-variants as power
-use Rattle.zdo_readers.specs.declared.readers.OptionSimpleDescriptor.{OptionSimpleDescriptor}
-use Rattle.zdo_readers.specs.declared.readers.OptionSimpleDescriptor.the-variants as simple
-use Rattle.zdo_readers.specs.declared.readers.MatchReply.{MatchReply}
-use Rattle.zdo_readers.specs.declared.readers.MatchReply.the-variants.{Matched, Failed}
 use Rattle.zdo_readers.specs.declared.readers.OptionAssociated.{OptionAssociated}
 use Rattle.zdo_readers.specs.declared.readers.OptionAssociated.the-variants as associated
+use Rattle.zdo_list_readers.specs.ListReaders.{listReplyIn, matchReplyIn, simpleReplyIn}
+use Rattle.zdo_list_readers.specs.declared.readers.OptionSimpleDescriptor.{OptionSimpleDescriptor}
+use Rattle.zdo_list_readers.specs.declared.readers.OptionSimpleDescriptor.the-variants as simple
+use Rattle.zdo_list_readers.specs.declared.readers.MatchReply.{MatchReply}
+use Rattle.zdo_list_readers.specs.declared.readers.MatchReply.the-variants.{Matched, Failed}
 use Rattle.zdo_dispatcher.specs.Answers.{leaving}
 use Rattle.demands.specs.Cases.{Case, typeShown, powerShown, nodeOf, modeShown, sourceShown, levelShown}
 
@@ -98,7 +99,7 @@ places p = p .start ∷ p .count ∷ []
 
 -- of a match reply seq, address and list; of a failed one seq and status
 abbrev pub matchNumbers : MatchReply → List ℕ
-matchNumbers (Matched r) = r .header .seq ∷ r .header .«nwk_addr_of_interest» .0 ∷ places (r .endpoints)
+matchNumbers (Matched r) = r .header .seq ∷ r .header .«nwk_addr_of_interest» .0 ∷ places (r .list)
 matchNumbers (Failed seq status) = seq ∷ status ∷ []
 
 -- an active reply, whole and one short; a match reply, and one of another status, of three bytes and of two; a bind reply
@@ -106,8 +107,8 @@ unfoldable pub ReadLists : Case
 ReadLists =
     record {
       says =
-          mapped (λ r. places (r .endpoints)) (listReplyIn (0x07 ∷ 0x00 ∷ 0x34 ∷ 0x12 ∷ 0x02 ∷ 0x01 ∷ 0x02 ∷ []))
-          ∷ mapped (λ r. places (r .endpoints)) (listReplyIn (0x07 ∷ 0x00 ∷ 0x34 ∷ 0x12 ∷ 0x02 ∷ 0x01 ∷ []))
+          mapped (λ r. places (r .list)) (listReplyIn (0x07 ∷ 0x00 ∷ 0x34 ∷ 0x12 ∷ 0x02 ∷ 0x01 ∷ 0x02 ∷ []))
+          ∷ mapped (λ r. places (r .list)) (listReplyIn (0x07 ∷ 0x00 ∷ 0x34 ∷ 0x12 ∷ 0x02 ∷ 0x01 ∷ []))
           ∷ mapped matchNumbers (matchReplyIn (0x09 ∷ 0x00 ∷ 0x34 ∷ 0x12 ∷ 0x01 ∷ 0x01 ∷ []))
           ∷ mapped matchNumbers (matchReplyIn (0x09 ∷ 0x80 ∷ 0x05 ∷ []))
           ∷ mapped matchNumbers (matchReplyIn (0x09 ∷ 0x80 ∷ []))
