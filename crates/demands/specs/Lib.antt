@@ -13,6 +13,8 @@ pub mod ReaderCases
 pub mod Claim
 pub mod Frames
 pub mod ReadBack
+pub mod ReadersRefuse
+pub mod TwoReaders
 pub mod OneAnswer
 pub mod Reached
 pub mod Order

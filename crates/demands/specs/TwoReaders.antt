@@ -1,0 +1,48 @@
+-- Two readers of one format: `parse_node_desc_rsp`, which looks for the server mask alone, and the reader of whole node replies. That
+-- they agree, as statements. A term of each stands in proofs/.
+use mathlib.Core.Path.{_≡_}
+use mathlib.Core.List.{List}
+use Prim.Native.Nat.{ℕ}
+use Rattle.zigbee_types.specs.Outcome.{answer, mapped}
+use Rattle.node_flags.specs.Flags.{stackRevision}
+use Rattle.node_descriptor.specs.NodeDescriptor.{nodeFields}
+use Rattle.zdo_readers.specs.Readers.{nodeReplyIn, nodeDescRspIn, stackRevisionOf}
+use Rattle.zdo_readers.specs.declared.descriptor.NodeDescRsp.{NodeDescRsp}
+use Rattle.zdo_readers.specs.declared.descriptor.OptionServerMask.{OptionServerMask}
+use Rattle.zdo_readers.specs.declared.descriptor.OptionServerMask.the-variants as mask
+use Rattle.zdo_readers.specs.declared.descriptor.OptionStackRevision.{OptionStackRevision}
+use Rattle.zdo_readers.specs.declared.descriptor.OptionStackRevision.the-variants as revision
+use Rattle.zdo_readers.specs.declared.readers.NodeReply.{NodeReply}
+use Rattle.zdo_readers.specs.declared.readers.OptionNodeDescriptor.{OptionNodeDescriptor}
+use Rattle.zdo_readers.specs.declared.readers.OptionNodeDescriptor.the-variants as node
+
+-- the server mask of a descriptor, where there is one
+abbrev pub maskOf : OptionNodeDescriptor → OptionServerMask
+maskOf (node.Some d) = mask.Some (nodeFields d .«server_mask»)
+maskOf node.None = mask.None
+
+-- its stack revision, as `get_stack_compliance_revision` gives it
+abbrev pub revisionOf : OptionNodeDescriptor → OptionStackRevision
+revisionOf (node.Some d) = revision.Some (stackRevision (nodeFields d .«server_mask»))
+revisionOf node.None = revision.None
+
+-- what a whole node reply says of sequence number, status, address and server mask
+unfoldable pub inBrief : NodeReply → NodeDescRsp
+inBrief r =
+    record {
+      seq = r .header .seq;
+      status = r .header .status;
+      «nwk_addr_of_interest» = r .header .«nwk_addr_of_interest»;
+      «server_mask» = maskOf (r .descriptor);
+    }
+
+-- wherever the reader of whole replies reads, the other reads the same; so wherever both read, they agree
+abbrev pub NodeReadersAgree : Type 0
+NodeReadersAgree = (reply : List ℕ) (r : NodeReply) → nodeReplyIn reply ≡ answer r → nodeDescRspIn reply ≡ answer (inBrief r)
+
+-- and both stack revisions are one
+abbrev pub RevisionsAgree : Type 0
+RevisionsAgree =
+    (reply : List ℕ) (r : NodeReply)
+    → nodeReplyIn reply ≡ answer r
+    → mapped (λ s. stackRevisionOf (s .«server_mask»)) (nodeDescRspIn reply) ≡ answer (revisionOf (r .descriptor))
