@@ -1,6 +1,7 @@
 pub mod CounterCases
 pub mod Frames
 pub mod ReadBack
+pub mod ReplyReadBack
 pub mod OneAnswer
 pub mod Calls
 pub mod History

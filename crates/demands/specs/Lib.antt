@@ -13,6 +13,7 @@ pub mod ReaderCases
 pub mod Claim
 pub mod Frames
 pub mod ReadBack
+pub mod ReplyReadBack
 pub mod ReadersRefuse
 pub mod TwoReaders
 pub mod OneAnswer

@@ -50,7 +50,7 @@ laid-again [] = refl
 laid-again (f ∷ fs) = rw (map-append, laid-append, bytes-again, laid-again fs)
 
 -- so at most 255 of them behind their number are a list of endpoints, to look at
-as-list :
+pub as-list :
     (seq : ℕ) (a : ShortAddress) (fs : List Field)
     → length (laid fs) ≤ 255
     → answer (laid (header seq SUCCESS a ++ byte (length (laid fs)) ∷ []) ++ laid fs) ≡ listRsp seq a (laid fs)

@@ -1,0 +1,170 @@
+-- Demand 2, its last sentence: a reply that was written is read, under document 01's premises, as the fields that its writer was
+-- given, cut to their widths. As statements, one for each writer and its reader; a term of each stands in proofs/.
+use Prim.Native.Nat.{ℕ, _%_, _^_, _≤_}
+use mathlib.Core.Path.{_≡_}
+use mathlib.Core.Bool.{Bool, true, false, cond}
+use mathlib.Core.List.{List, [], _++_, map}
+use mathlib.Core.Option.{Option, none, some}
+use lib.ListN.{length, take}
+use Rattle.zigbee_types.specs.Outcome.{Outcome, answer, refusal, mapped, Wrote}
+use Rattle.zigbee_types.specs.Layout.{entriesAt}
+use Rattle.zigbee_types.specs.Lists.{option}
+use Rattle.zigbee_types.specs.Addresses.{ieeeOf, shortOf}
+use Rattle.zigbee_types.specs.Statuses.{SUCCESS, NOT-ACTIVE}
+use Rattle.zigbee_types.specs.declared.IeeeAddress.{IeeeAddress}
+use Rattle.zigbee_types.specs.declared.ShortAddress.{ShortAddress}
+use Rattle.node_descriptor.specs.NodeDescriptor.{nodeFields}
+use Rattle.node_descriptor.specs.declared.descriptor.NodeDescriptorConfig.{NodeDescriptorConfig}
+use Rattle.power_names.specs.Names.{sourceBits}
+use Rattle.node_power_descriptor.specs.PowerDescriptor.{powerFields, usable}
+use Rattle.node_power_descriptor.specs.declared.descriptor.PowerDescriptorConfig.{PowerDescriptorConfig}
+use Rattle.simple_descriptor.specs.SimpleDescriptor.{Endpoint, simpleFields}
+use Rattle.zdo_replies.specs.Replies.{nodeDescRsp, powerDescRsp, descriptorRspError, listRsp, emptyRsp, matchDescRspError, addrRspSingle, addrRsp, statusRsp}
+use Rattle.zdo_device.specs.Tables.{Pools, used, endpointRecord, endpointOf}
+use Rattle.zdo_device.specs.declared.descriptor.DeviceDescriptorConfig.{DeviceDescriptorConfig}
+use Rattle.zdo_device_rsp.specs.TableReplies.{numbers, activeEpRsp, simpleDescRsp}
+use Rattle.zdo_readers.specs.Readers.{nodeReplyIn, powerReplyIn, addrReplyIn, statusReplyIn}
+use Rattle.zdo_readers.specs.declared.readers.ReplyHeader.{ReplyHeader}
+use Rattle.zdo_readers.specs.declared.readers.NodeReply.{NodeReply}
+use Rattle.zdo_readers.specs.declared.readers.OptionNodeDescriptor.{OptionNodeDescriptor}
+use Rattle.zdo_readers.specs.declared.readers.OptionNodeDescriptor.the-variants as node
+use Rattle.zdo_readers.specs.declared.readers.PowerReply.{PowerReply}
+use Rattle.zdo_readers.specs.declared.readers.OptionPowerDescriptor.{OptionPowerDescriptor}
+use Rattle.zdo_readers.specs.declared.readers.OptionPowerDescriptor.the-variants as power
+use Rattle.zdo_readers.specs.declared.readers.AddrReply.{AddrReply}
+use Rattle.zdo_readers.specs.declared.readers.OptionAssociated.{OptionAssociated}
+use Rattle.zdo_readers.specs.declared.readers.OptionAssociated.the-variants as associated
+use Rattle.zdo_readers.specs.declared.readers.StatusReply.{StatusReply}
+use Rattle.zdo_list_readers.specs.ListReaders.{listReplyIn, matchReplyIn, simpleReplyIn}
+use Rattle.zdo_list_readers.specs.declared.readers.ListReply.{ListReply}
+use Rattle.zdo_list_readers.specs.declared.readers.MatchReply.{MatchReply}
+use Rattle.zdo_list_readers.specs.declared.readers.MatchReply.the-variants as match
+use Rattle.zdo_list_readers.specs.declared.readers.SimpleReply.{SimpleReply}
+use Rattle.zdo_list_readers.specs.declared.readers.OptionSimpleDescriptor.{OptionSimpleDescriptor}
+use Rattle.zdo_list_readers.specs.declared.readers.OptionSimpleDescriptor.the-variants as simple
+use Rattle.demands.specs.ReadBack.{cutNode, cutPower, cutEndpoint}
+
+-- what was written by a writer that comes to o is read as r: as many bytes of the buffer as the writer told, with any bytes behind
+-- them
+abbrev pub ReadsAs : {R : Type 0} → Outcome (List ℕ) → (List ℕ → Outcome R) → Outcome R → Type 0
+ReadsAs o read r =
+    (before after rest : List ℕ) (told : ℕ) → Wrote o before (answer told) after → read (take told after ++ rest) ≡ r
+
+-- the same, with nothing behind them
+abbrev pub ReadsAloneAs : {R : Type 0} → Outcome (List ℕ) → (List ℕ → Outcome R) → Outcome R → Type 0
+ReadsAloneAs o read r = (before after : List ℕ) (told : ℕ) → Wrote o before (answer told) after → read (take told after) ≡ r
+
+-- the premise of an error form: its status, as it is written, is not SUCCESS
+abbrev pub Failing : ℕ → Type 0
+Failing status = status % 256 ≡ SUCCESS → ⊥
+
+-- sequence number, status and address, cut
+unfoldable pub cutHeader : ℕ → ℕ → ShortAddress → ReplyHeader
+cutHeader seq status a = record { seq = seq % 256; status = status % 256; «nwk_addr_of_interest» = shortOf (a .0 % 65536) }
+
+-- ---- what a reply that was read says
+
+-- the fields of a node descriptor, where there is one
+abbrev pub someNode : OptionNodeDescriptor → Option NodeDescriptorConfig
+someNode (node.Some d) = some (nodeFields d)
+someNode node.None = none
+
+-- a node reply: its header, and the fields of its descriptor
+abbrev pub nodeRead : List ℕ → Outcome (ReplyHeader × Option NodeDescriptorConfig)
+nodeRead reply = mapped (λ r. (r .header, someNode (r .descriptor))) (nodeReplyIn reply)
+
+-- the fields of a power descriptor, where there is one
+abbrev pub somePower : OptionPowerDescriptor → Option PowerDescriptorConfig
+somePower (power.Some d) = some (powerFields d)
+somePower power.None = none
+
+-- a power reply: its header, and the fields of its descriptor
+abbrev pub powerRead : List ℕ → Outcome (ReplyHeader × Option PowerDescriptorConfig)
+powerRead reply = mapped (λ r. (r .header, somePower (r .descriptor))) (powerReplyIn reply)
+
+-- a list, taken from the place that the reader gives
+abbrev pub listSaid : List ℕ → ListReply → ReplyHeader × List ℕ
+listSaid reply r = (r .header, entriesAt 1 reply (r .list))
+
+-- an active reply: its header, and its endpoints
+abbrev pub listRead : List ℕ → Outcome (ReplyHeader × List ℕ)
+listRead reply = mapped (listSaid reply) (listReplyIn reply)
+
+-- a match reply: its header and its endpoints, or the sequence number and the status of an error
+pub data MatchSaid : Type 0 where
+  found : ReplyHeader × List ℕ → MatchSaid
+  failed : ℕ → ℕ → MatchSaid
+
+abbrev pub matchSaid : List ℕ → MatchReply → MatchSaid
+matchSaid reply (match.Matched r) = found (listSaid reply r)
+matchSaid reply (match.Failed seq status) = failed seq status
+
+abbrev pub matchRead : List ℕ → Outcome MatchSaid
+matchRead reply = mapped (matchSaid reply) (matchReplyIn reply)
+
+-- the fields of a simple descriptor, where there is one, its lists taken from the places that the reader gives
+abbrev pub someSimple : List ℕ → OptionSimpleDescriptor → Option Endpoint
+someSimple reply (simple.Some d) = some (simpleFields reply d)
+someSimple reply simple.None = none
+
+-- a simple reply: its header, and the fields of its descriptor
+abbrev pub simpleRead : List ℕ → Outcome (ReplyHeader × Option Endpoint)
+simpleRead reply = mapped (λ r. (r .header, someSimple reply (r .descriptor))) (simpleReplyIn reply)
+
+-- ---- what is to be read
+
+-- an address reply's fields, cut, with what an extended one adds
+unfoldable pub cutAddr : ℕ → ℕ → IeeeAddress → ShortAddress → OptionAssociated → AddrReply
+cutAddr seq status long a o =
+    record {
+      seq = seq % 256;
+      status = status % 256;
+      «ieee_addr» = ieeeOf (long .0 % 256 ^ 8);
+      «nwk_addr» = shortOf (a .0 % 65536);
+      associated = o;
+    }
+
+-- of a device without children an extended reply has two zeros, and behind them no list
+unfoldable pub noDevices : Bool → OptionAssociated
+noDevices true = associated.Some (record { «num_assoc_dev» = 0; «start_index» = 0; devices = record { start = 14; count = 0 } })
+noDevices false = associated.None
+
+-- of a simple reply: the descriptor of the first record with the number; where there is none, NOT_ACTIVE
+unfoldable pub cutSimple : ℕ → ShortAddress → Pools → DeviceDescriptorConfig → ℕ → ReplyHeader × Option Endpoint
+cutSimple seq a p d n =
+    option (cutHeader seq NOT-ACTIVE a, none) (λ e. (cutHeader seq SUCCESS a, some (cutEndpoint (endpointOf p e)))) (endpointRecord d n)
+
+-- ---- the writers
+
+-- each writer's reply is read back. Document 01's premises: the source of a power descriptor is usable (else the reader refuses it), a
+-- list has at most 255 entries, and an error's status is another than SUCCESS. Active and simple errors do not need the last. An address
+-- reply of SUCCESS is read alone, since two bytes behind it would make it extended.
+pub record RepliesReadBack : Type 0 where
+  pub node : (seq : ℕ) (a : ShortAddress) (n : NodeDescriptorConfig) → ReadsAs (nodeDescRsp seq a n) nodeRead (answer (cutHeader seq SUCCESS a, some (cutNode n)))
+  pub nodeError : (seq status : ℕ) (a : ShortAddress) → Failing status → ReadsAs (descriptorRspError seq status a) nodeRead (answer (cutHeader seq status a, none))
+  pub power :
+      (seq : ℕ) (a : ShortAddress) (p : PowerDescriptorConfig)
+      → ReadsAs (powerDescRsp seq a p) powerRead
+      (cond (usable (p .«available_power_sources» % 16) (sourceBits (p .«current_power_source»))) (answer (cutHeader seq SUCCESS a, some (cutPower p))) (refusal 3))
+  pub powerError : (seq status : ℕ) (a : ShortAddress) → Failing status → ReadsAs (descriptorRspError seq status a) powerRead (answer (cutHeader seq status a, none))
+  pub active :
+      (seq : ℕ) (a : ShortAddress) (d : DeviceDescriptorConfig)
+      → ReadsAs (activeEpRsp seq a d) listRead (answer (cutHeader seq SUCCESS a, map (λ x. x % 256) (numbers (used d))))
+  pub activeError : (seq status : ℕ) (a : ShortAddress) → ReadsAs (emptyRsp seq status a) listRead (answer (cutHeader seq status a, []))
+  pub match :
+      (seq : ℕ) (a : ShortAddress) (xs : List ℕ)
+      → length xs ≤ 255
+      → ReadsAs (listRsp seq a xs) matchRead (answer (found (cutHeader seq SUCCESS a, map (λ x. x % 256) xs)))
+  pub matchError : (seq status : ℕ) → Failing status → ReadsAs (matchDescRspError seq status) matchRead (answer (failed (seq % 256) (status % 256)))
+  pub simple :
+      (seq : ℕ) (a : ShortAddress) (p : Pools) (d : DeviceDescriptorConfig) (n : ℕ)
+      → ReadsAs (simpleDescRsp seq a p d n) simpleRead (answer (cutSimple seq a p d n))
+  pub simpleError : (seq status : ℕ) (a : ShortAddress) → ReadsAs (emptyRsp seq status a) simpleRead (answer (cutHeader seq status a, none))
+  pub address :
+      (seq : ℕ) (long : IeeeAddress) (a : ShortAddress) (extended : Bool)
+      → ReadsAloneAs (addrRsp seq long a extended) addrReplyIn (answer (cutAddr seq SUCCESS long a (noDevices extended)))
+  pub addressError :
+      (seq status : ℕ) (long : IeeeAddress) (a : ShortAddress)
+      → Failing status
+      → ReadsAs (addrRspSingle seq status long a) addrReplyIn (answer (cutAddr seq status long a associated.None))
+  pub status : (seq status : ℕ) → ReadsAs (statusRsp seq status) statusReplyIn (answer (record { seq = seq % 256; status = status % 256 }))
