@@ -1,11 +1,11 @@
 -- Named values have their numbers, and a descriptor or a node request that was written reads back with its fields cut to their
 -- widths. Assumes nothing.
-use Prim.Native.Nat.{ℕ, _%_, _≤_}
+use Prim.Native.Nat.{ℕ, _+_, _%_, _≤_}
 use native.Mathlib.Omega.{arith}
 use mathlib.Core.Path.{_≡_, refl}
 use mathlib.Core.Bool.{cond}
 use mathlib.Core.List.{List, [], _++_, map, append-assoc}
-use lib.ListN.{length}
+use lib.ListN.{length, length-append}
 use lib.Dec.{leb}
 use borrow.Author.Tests.{leb-true}
 use Rattle.zigbee_types.specs.Outcome.{answer, refusal, andThen, mapped}
@@ -88,33 +88,35 @@ power-reads-back p before after told w = rw (wrote-bytes w .left) (power-back p 
 
 -- ---- simple
 
--- where the first fields and the lists read back, the descriptor does
-simple-read :
-    (e : Endpoint) (bytes : List ℕ)
-    → fieldsAt simpleWidths bytes 0 ≡ map cut (simpleHeader e)
-    → ListsAt bytes 6 (e .«input_clusters») (e .«output_clusters»)
-    → mapped (simpleFields bytes) (simpleDescriptorIn bytes) ≡ answer (cutEndpoint e)
-unfolding mapped simpleHeader cut simpleOf simpleDescriptorIn simpleFields cutEndpoint
-simple-read e bytes fields lists =
-    let version : e .«device_version» % 16 % 256 % 16 ≡ e .«device_version» % 16 = omega arith in
-    rw (lists .places, fields, lists .first, lists .second, version)
+module _ (e : Endpoint) where
+  -- the first fields
+  pub simple-front : (rest : List ℕ) → fieldsAt simpleWidths (laid (simpleDescriptor e) ++ rest) 0 ≡ map cut (simpleHeader e)
+  unfolding simpleDescriptor
+  simple-front rest =
+      let inputs : List ℕ = laid (listed 2 (e .«input_clusters»)) in
+      let outputs : List ℕ = laid (listed 2 (e .«output_clusters»)) in
+      rw (← one-layout .simple e, laid-append, laid-append, append-assoc, append-assoc) (laid-back [] (inputs ++ (outputs ++ rest)) (simpleHeader e))
 
--- whatever stands behind it
-pub simple-back :
-    (e : Endpoint) (rest : List ℕ)
-    → clusterCount e ≤ 28
-    → mapped (simpleFields (laid (simpleDescriptor e) ++ rest)) (simpleDescriptorIn (laid (simpleDescriptor e) ++ rest)) ≡ answer (cutEndpoint e)
-unfolding simpleDescriptor clusterCount simpleWidths size
-simple-back e rest few =
-    let header : List ℕ = laid (simpleHeader e) in
-    let inputs : List ℕ = laid (listed 2 (e .«input_clusters»)) in
-    let outputs : List ℕ = laid (listed 2 (e .«output_clusters»)) in
-    let long : length header ≡ 6 = header-size e in
-    let fields : fieldsAt simpleWidths (header ++ inputs ++ outputs ++ rest) 0 ≡ map cut (simpleHeader e) =
-    rw (← one-layout .simple e, append-assoc, append-assoc) (laid-back [] (inputs ++ (outputs ++ rest)) (simpleHeader e)) in
-    let lists : ListsAt (header ++ inputs ++ outputs ++ rest) 6 (e .«input_clusters») (e .«output_clusters») =
-    rw long at (lists-back header (e .«input_clusters») (e .«output_clusters») rest (omega arith) (omega arith)) in
-    rw (laid-append, laid-append) (simple-read e (header ++ inputs ++ outputs ++ rest) fields lists)
+  module _ (few : clusterCount e ≤ 28) where
+    -- the lists, wherever the descriptor stands
+    pub simple-lists :
+        (front rest : List ℕ)
+        → ListsAt (front ++ laid (simpleDescriptor e) ++ rest) (length front + 6) (e .«input_clusters») (e .«output_clusters»)
+    unfolding simpleDescriptor clusterCount
+    simple-lists front rest =
+        let long : length (front ++ laid (simpleHeader e)) ≡ length front + 6 = rw (length-append, header-size) in
+        rw (laid-append, laid-append, ← append-assoc, ← append-assoc, ← long)
+        (lists-back (front ++ laid (simpleHeader e)) (e .«input_clusters») (e .«output_clusters») rest (omega arith) (omega arith))
+
+    -- whatever stands behind it
+    pub simple-back :
+        (rest : List ℕ)
+        → mapped (simpleFields (laid (simpleDescriptor e) ++ rest)) (simpleDescriptorIn (laid (simpleDescriptor e) ++ rest)) ≡ answer (cutEndpoint e)
+    unfolding mapped simpleHeader cut simpleOf simpleDescriptorIn simpleFields cutEndpoint
+    simple-back rest =
+        let version : e .«device_version» % 16 % 256 % 16 ≡ e .«device_version» % 16 = omega arith in
+        let lists = simple-lists [] rest in
+        rw (lists .places, simple-front rest, lists .first, lists .second, version)
 
 pub simple-reads-back : SimpleReadsBack
 unfolding simpleWritten
@@ -122,7 +124,7 @@ simple-reads-back e before after told w =
     let (bytes, came, stands) = wrote-answer (simpleWritten e) w in
     let (few, same) = granted (leb (clusterCount e) 28) (answer (laid (simpleDescriptor e))) 4 came in
     let whole : bytes ≡ laid (simpleDescriptor e) = cc in
-    rw (stands .left, whole) (simple-back e _ (leb-true (clusterCount e) 28 few))
+    rw (stands .left, whole) (simple-back e (leb-true (clusterCount e) 28 few) _)
 
 -- ---- the node request
 
