@@ -3,7 +3,7 @@
 use Prim.Native.Nat.{ℕ, _+_, _*_, _%_, _≤_, _<_, min}
 use native.Mathlib.Omega.{arith}
 use mathlib.Core.Path.{_≡_, refl, sym, ap}
-use mathlib.Core.Bool.{Bool, true, false, cond}
+use mathlib.Core.Bool.{Bool, true, false, _&&_, cond}
 use mathlib.Core.List.{List, [], _∷_, _++_, map, append-assoc, append-nil}
 use mathlib.Core.Option.{Option, none, some}
 use lib.Dec.{eqb, leb}
@@ -26,17 +26,25 @@ use Rattle.node_descriptor.specs.declared.descriptor.NodeDescriptorConfig.{Node
 use Rattle.power_names.specs.Names.{sourceBits}
 use Rattle.node_power_descriptor.specs.PowerDescriptor.{powerDescriptor, powerDescriptorIn, powerFields, usable}
 use Rattle.node_power_descriptor.specs.declared.descriptor.PowerDescriptorConfig.{PowerDescriptorConfig}
-use Rattle.zdo_replies.specs.Replies.{header, nodeDescRsp, powerDescRsp, descriptorRspError, endpointList, listRsp, emptyRsp, matchErrorFields, matchDescRspError, statusFields, statusRsp}
-use Rattle.zdo_device.specs.Tables.{used}
+use Rattle.simple_descriptor.specs.SimpleDescriptor.{Endpoint, simpleHeader, simpleDescriptor, clusterCount, simpleWritten, simpleOf, simpleDescriptorIn, simpleFields}
+use Rattle.simple_descriptor.specs.declared.SimpleDescriptorFields.{SimpleDescriptorFields}
+use Rattle.simple_descriptor.proofs.Written.{simple-length}
+use Rattle.zdo_replies.specs.Replies.{header, nodeDescRsp, powerDescRsp, descriptorRspError, endpointList, listRsp, emptyRsp, matchErrorFields, matchDescRspError, describedRsp, addrHeader, addrRspSingle, addrRspExtended, addrRsp, statusFields, statusRsp}
+use Rattle.zdo_device.specs.Tables.{Pools, used, endpointRecord, goodDevice, endpointOf}
+use Rattle.zdo_device.specs.declared.descriptor.EndpointDescriptor.{EndpointDescriptor}
 use Rattle.zdo_device.specs.declared.descriptor.DeviceDescriptorConfig.{DeviceDescriptorConfig}
-use Rattle.zdo_device_rsp.specs.TableReplies.{numbers, activeRspOf, activeEpRsp}
-use Rattle.zdo_readers.specs.Readers.{headerWidths, headerIn, describedIn, nodeWith, nodeWithout, nodeReplyIn, powerWith, powerWithout, powerReplyIn, statusWidths, statusReplyIn}
+use Rattle.zdo_device_rsp.specs.TableReplies.{numbers, activeRspOf, activeEpRsp, simpleRspOf, simpleDescRsp}
+use Rattle.zdo_device_rsp.proofs.Described.{as-list}
+use Rattle.zdo_readers.specs.Readers.{headerWidths, headerIn, describedIn, nodeWith, nodeWithout, nodeReplyIn, powerWith, powerWithout, powerReplyIn, associatedIn, addrWidths, addrReplyIn, statusWidths, statusReplyIn}
 use Rattle.zdo_readers.specs.declared.readers.ReplyHeader.{ReplyHeader}
-use Rattle.zdo_list_readers.specs.ListReaders.{listBehind, listReplyIn, matchErrorWidths, matchReplyInAs, matchReplyIn}
-use Rattle.demands.specs.ReplyReadBack.{ReadsAs, Failing, cutHeader, someNode, nodeRead, somePower, powerRead, listSaid, listRead, MatchSaid, found, failed, matchSaid, matchRead, RepliesReadBack}
-use Rattle.demands.specs.ReadBack.{cutNode, cutPower}
+use Rattle.zdo_readers.specs.declared.readers.OptionAssociated.the-variants as associated
+use Rattle.zdo_list_readers.specs.ListReaders.{listBehind, listReplyIn, matchErrorWidths, matchReplyInAs, matchReplyIn, shifted, shiftedFields, simpleWithin, simpleReplyIn}
+use Rattle.zdo_list_readers.specs.declared.readers.SimpleReply.{SimpleReply}
+use Rattle.zdo_list_readers.specs.declared.readers.OptionSimpleDescriptor.the-variants as simple
+use Rattle.demands.specs.ReplyReadBack.{ReadsAs, ReadsAloneAs, Failing, cutHeader, nodeSaid, nodeRead, powerSaid, powerRead, listSaid, listRead, MatchSaid, found, failed, matchSaid, matchRead, simpleSaid, simpleRead, cutAddr, noDevices, cutSimple, RepliesReadBack}
+use Rattle.demands.specs.ReadBack.{cutNode, cutPower, cutEndpoint}
 use Rattle.demands.proofs.Frames.{one-layout}
-use Rattle.demands.proofs.ReadBack.{node-back, power-back}
+use Rattle.demands.proofs.ReadBack.{node-back, power-back, simple-front, simple-lists}
 
 -- ---- what was sent
 
@@ -66,44 +74,44 @@ module _
     {D C R : Type 0} (descriptorIn : List ℕ → Outcome D) (with : ReplyHeader → D → R) (without : ReplyHeader → R)
     (fields : D → C) (said : R → ReplyHeader × Option C)
     (seq : ℕ) (a : ShortAddress)
-    where
-  -- with SUCCESS, the fields that are read behind the header
-  described-back :
-      (fs : List Field) (rest : List ℕ)
-      → ((h : ReplyHeader) (d : D) → said (with h d) ≡ (h, some (fields d)))
-      → mapped said (describedIn descriptorIn with without (laid (header seq SUCCESS a ++ fs) ++ rest))
-      ≡ mapped (λ c. (cutHeader seq SUCCESS a, some c)) (mapped fields (descriptorIn (laid fs ++ rest)))
-  unfolding describedIn andThen mapped cutHeader
-  described-back fs rest e =
-      let there : drop 4 (laid (header seq SUCCESS a) ++ (laid fs ++ rest)) ≡ laid fs ++ rest =
-      drop-at (laid (header seq SUCCESS a)) (laid fs ++ rest) 4 (header-long seq SUCCESS a) in
-      rw (laid-append, append-assoc, header-back, there) (go (descriptorIn (laid fs ++ rest)))
-    where
-      go :
-          (o : Outcome D)
-          → mapped said (mapped (with (cutHeader seq SUCCESS a)) o) ≡ mapped (λ c. (cutHeader seq SUCCESS a, some c)) (mapped fields o)
-      go (answer d) = ap answer (e (cutHeader seq SUCCESS a) d)
-      go (refusal n) = refl
+  where
+    -- with SUCCESS, the fields that are read behind the header
+    described-back :
+        (fs : List Field) (rest : List ℕ)
+        → ((h : ReplyHeader) (d : D) → said (with h d) ≡ (h, some (fields d)))
+        → mapped said (describedIn descriptorIn with without (laid (header seq SUCCESS a ++ fs) ++ rest))
+        ≡ mapped (λ c. (cutHeader seq SUCCESS a, some c)) (mapped fields (descriptorIn (laid fs ++ rest)))
+    unfolding describedIn andThen mapped cutHeader
+    described-back fs rest e =
+        let there : drop 4 (laid (header seq SUCCESS a) ++ (laid fs ++ rest)) ≡ laid fs ++ rest =
+        drop-at (laid (header seq SUCCESS a)) (laid fs ++ rest) 4 (header-long seq SUCCESS a) in
+        rw (laid-append, append-assoc, header-back, there) (go (descriptorIn (laid fs ++ rest)))
+      where
+        go :
+            (o : Outcome D)
+            → mapped said (mapped (with (cutHeader seq SUCCESS a)) o) ≡ mapped (λ c. (cutHeader seq SUCCESS a, some c)) (mapped fields o)
+        go (answer d) = ap answer (e (cutHeader seq SUCCESS a) d)
+        go (refusal n) = refl
 
-  -- with another status, nothing
-  error-back :
-      (status : ℕ) (rest : List ℕ)
-      → Failing status
-      → mapped said (describedIn descriptorIn with without (laid (header seq status a) ++ rest)) ≡ answer (said (without (cutHeader seq status a)))
-  unfolding describedIn andThen mapped cutHeader
-  error-back status rest other = rw (header-back, ne-eqb _ _ other)
+    -- with another status, nothing
+    error-back :
+        (status : ℕ) (rest : List ℕ)
+        → Failing status
+        → mapped said (describedIn descriptorIn with without (laid (header seq status a) ++ rest)) ≡ answer (said (without (cutHeader seq status a)))
+    unfolding describedIn andThen mapped cutHeader
+    error-back status rest other = rw (header-back, ne-eqb _ _ other)
 
 module _ (seq : ℕ) (a : ShortAddress) where
   node-reply-back : (n : NodeDescriptorConfig) → ReadsAs (nodeDescRsp seq a n) nodeRead (answer (cutHeader seq SUCCESS a, some (cutNode n)))
   unfolding nodeDescRsp nodeReplyIn mapped
   node-reply-back n =
       sent-back _ nodeRead _
-      (λ rest. rw (described-back nodeDescriptorIn nodeWith nodeWithout nodeFields _ seq a (nodeDescriptor n) rest (λ h d. refl), node-back n rest))
+      (λ rest. rw (described-back nodeDescriptorIn nodeWith nodeWithout nodeFields nodeSaid seq a (nodeDescriptor n) rest (λ h d. refl), node-back n rest))
 
   node-error-back : (status : ℕ) → Failing status → ReadsAs (descriptorRspError seq status a) nodeRead (answer (cutHeader seq status a, none))
   unfolding descriptorRspError nodeReplyIn
   node-error-back status other =
-      sent-back _ nodeRead _ (λ rest. error-back nodeDescriptorIn nodeWith nodeWithout nodeFields _ seq a status rest other)
+      sent-back _ nodeRead _ (λ rest. error-back nodeDescriptorIn nodeWith nodeWithout nodeFields nodeSaid seq a status rest other)
 
   power-reply-back :
       (p : PowerDescriptorConfig)
@@ -112,12 +120,12 @@ module _ (seq : ℕ) (a : ShortAddress) where
   unfolding powerDescRsp powerReplyIn
   power-reply-back p =
       sent-back _ powerRead _
-      (λ rest. rw (described-back powerDescriptorIn powerWith powerWithout powerFields _ seq a (powerDescriptor p) rest (λ h d. refl), power-back p rest, mapped-granted))
+      (λ rest. rw (described-back powerDescriptorIn powerWith powerWithout powerFields powerSaid seq a (powerDescriptor p) rest (λ h d. refl), power-back p rest, mapped-granted))
 
   power-error-back : (status : ℕ) → Failing status → ReadsAs (descriptorRspError seq status a) powerRead (answer (cutHeader seq status a, none))
   unfolding descriptorRspError powerReplyIn
   power-error-back status other =
-      sent-back _ powerRead _ (λ rest. error-back powerDescriptorIn powerWith powerWithout powerFields _ seq a status rest other)
+      sent-back _ powerRead _ (λ rest. error-back powerDescriptorIn powerWith powerWithout powerFields powerSaid seq a status rest other)
 
 -- ---- lists
 
@@ -198,3 +206,144 @@ status-reply-back : (seq status : ℕ) → ReadsAs (statusRsp seq status) status
 unfolding statusRsp statusReplyIn statusFields cut
 status-reply-back seq status =
     sent-back _ statusReplyIn _ (λ rest. parses statusWidths _ (statusFields seq status) rest (one-layout .status seq status))
+
+-- ---- simple
+
+-- a part of bytes that have something before it and behind it
+part-back : (front body rest : List ℕ) (m n : ℕ) → length front ≡ m → length body ≡ n → part m n (front ++ body ++ rest) ≡ body
+part-back front body rest m n e f = rw (append-assoc, drop-at front (body ++ rest) m e, take-at body rest n f)
+
+module _ (seq : ℕ) (a : ShortAddress) (e : Endpoint) (few : clusterCount e ≤ 28) where
+  -- the bytes of the descriptor, and those before it
+  abbrev bytes : List ℕ
+  bytes = laid (simpleDescriptor e)
+
+  abbrev front : List ℕ
+  front = laid (header seq SUCCESS a ++ byte (length bytes) ∷ [])
+
+  front-long : length front ≡ 5
+  unfolding header laid le
+  front-long = refl
+
+  short : length bytes ≤ 255
+  short = omega (arith, simple-length e)
+
+  -- the reply is a list of bytes, to look at
+  replied : front ++ bytes ≡ laid (header seq SUCCESS a ++ listed 1 bytes)
+  unfolding listRsp
+  replied = let same = as-list seq a (simpleDescriptor e) short in rw (← endpoints-listed bytes short) cc
+
+  -- the descriptor within its length is read with its lists counted from the start of the reply
+  descriptor-back :
+      (rest : List ℕ)
+      → mapped (λ d. simpleFields (front ++ bytes ++ rest) (shiftedFields 5 d)) (simpleDescriptorIn bytes) ≡ answer (cutEndpoint e)
+  unfolding mapped simpleHeader cut simpleOf simpleDescriptorIn simpleFields cutEndpoint shiftedFields shifted
+  descriptor-back rest =
+      let version : e .«device_version» % 16 % 256 % 16 ≡ e .«device_version» % 16 = omega arith in
+      let own = rw append-nil at (simple-lists e few [] []) in
+      let whole = rw front-long at (simple-lists e few front rest) in
+      let place : 5 + (6 + 1 + 2 * length (e .«input_clusters») + 1) ≡ 11 + 1 + 2 * length (e .«input_clusters») + 1 = omega arith in
+      rw (own .places, rw append-nil at (simple-front e []), place, whole .first, whole .second, version)
+
+  described-reply-back : (rest : List ℕ) → simpleRead (front ++ bytes ++ rest) ≡ answer (cutHeader seq SUCCESS a, some (cutEndpoint e))
+  unfolding simpleReplyIn andThen simpleWithin mapped
+  described-reply-back rest =
+      let not-none : length bytes ≡ 0 → ⊥ = λ z. omega (arith, z, simple-length e) in
+      let listed-there = rw (← replied) at (list-places seq SUCCESS a bytes rest short) in
+      rw (listed-there, ne-eqb _ _ not-none, part-back front bytes rest 5 (length bytes) front-long refl) (go (simpleDescriptorIn bytes) (descriptor-back rest))
+    where
+      go :
+          (o : Outcome SimpleDescriptorFields)
+          → mapped (λ d. simpleFields (front ++ bytes ++ rest) (shiftedFields 5 d)) o ≡ answer (cutEndpoint e)
+          → mapped (simpleSaid (front ++ bytes ++ rest)) (mapped (λ d. record { header = cutHeader seq SUCCESS a; descriptor = simple.Some (shiftedFields 5 d) }) o)
+          ≡ answer (cutHeader seq SUCCESS a, some (cutEndpoint e))
+      go (answer d) t = cc
+      go (refusal n) t = absurd (refused t)
+
+module _ (seq : ℕ) (a : ShortAddress) where
+  empty-reply-back : (status : ℕ) (rest : List ℕ) → simpleRead (laid (header seq status a ++ byte 0 ∷ []) ++ rest) ≡ answer (cutHeader seq status a, none)
+  unfolding simpleReplyIn andThen simpleWithin mapped listed
+  empty-reply-back status rest = rw (list-places seq status a [] rest (omega arith))
+
+  -- what an endpoint's reply comes to
+  simple-one-back :
+      (e : Endpoint) {bytes : List ℕ} (rest : List ℕ)
+      → describedRsp seq a e ≡ answer bytes
+      → simpleRead (bytes ++ rest) ≡ answer (cutHeader seq SUCCESS a, some (cutEndpoint e))
+  unfolding describedRsp simpleWritten andThen
+  simple-one-back e {bytes} rest came = go (leb (clusterCount e) 28) refl came
+    where
+      go :
+          (t : Bool)
+          → leb (clusterCount e) 28 ≡ t
+          → andThen (cond t (answer (laid (simpleDescriptor e))) (refusal 4)) (λ d. answer (laid (header seq SUCCESS a ++ byte (length d) ∷ []) ++ d))
+          ≡ answer bytes
+          → simpleRead (bytes ++ rest) ≡ answer (cutHeader seq SUCCESS a, some (cutEndpoint e))
+      go true t is =
+          let few : clusterCount e ≤ 28 = leb-true (clusterCount e) 28 t in
+          let whole : bytes ≡ front seq a e few ++ laid (simpleDescriptor e) = cc in
+          rw whole (described-reply-back seq a e few rest)
+      go false t is = absurd (refused is)
+
+  simple-reply-back :
+      (p : Pools) (d : DeviceDescriptorConfig) (n : ℕ) → ReadsAs (simpleDescRsp seq a p d n) simpleRead (answer (cutSimple seq a p d n))
+  unfolding simpleDescRsp simpleRspOf emptyRsp option cutSimple
+  simple-reply-back p d n before after rest told w =
+      let (bytes, came, stands) = wrote-answer (simpleDescRsp seq a p d n) w in
+      let (_, same) = granted (goodDevice p d) (simpleRspOf seq a p d n) 1 came in
+      rw (sent stands) (go (endpointRecord d n) bytes same)
+    where
+      go :
+          (o : Option EndpointDescriptor) (reply : List ℕ)
+          → option (emptyRsp seq NOT-ACTIVE a) (λ e. describedRsp seq a (endpointOf p e)) o ≡ answer reply
+          → simpleRead (reply ++ rest) ≡ answer (option (cutHeader seq NOT-ACTIVE a, none) (λ e. (cutHeader seq SUCCESS a, some (cutEndpoint (endpointOf p e)))) o)
+      go none reply is =
+          let whole : reply ≡ laid (header seq NOT-ACTIVE a ++ byte 0 ∷ []) = cc in
+          rw whole (empty-reply-back NOT-ACTIVE rest)
+      go (some e) reply is = simple-one-back (endpointOf p e) rest is
+
+  simple-error-back : (status : ℕ) → ReadsAs (emptyRsp seq status a) simpleRead (answer (cutHeader seq status a, none))
+  unfolding emptyRsp
+  simple-error-back status = sent-back _ simpleRead _ (empty-reply-back status)
+
+-- ---- addresses
+
+module _ (seq status : ℕ) (long : IeeeAddress) (a : ShortAddress) where
+  -- the fields in front, and what is read behind them
+  addr-front :
+      (rest : List ℕ)
+      → let reply = laid (addrHeader seq status long a) ++ rest in
+      addrReplyIn reply ≡ answer (cutAddr seq status long a (associatedIn (eqb (status % 256) SUCCESS && leb 14 (length reply)) reply))
+  unfolding addrReplyIn addrHeader cut cutAddr
+  addr-front rest = parses addrWidths _ (addrHeader seq status long a) rest (one-layout .address seq status long a)
+
+  addr-error-back : Failing status → ReadsAs (addrRspSingle seq status long a) addrReplyIn (answer (cutAddr seq status long a associated.None))
+  unfolding addrRspSingle associatedIn
+  addr-error-back other = sent-back _ addrReplyIn _ (λ rest. rw (addr-front rest, ne-eqb _ _ other))
+
+addr-back :
+    (seq : ℕ) (long : IeeeAddress) (a : ShortAddress) (extended : Bool)
+    → ReadsAloneAs (addrRsp seq long a extended) addrReplyIn (answer (cutAddr seq SUCCESS long a (noDevices extended)))
+unfolding addrRsp addrRspSingle addrRspExtended addrHeader associatedIn noDevices laid le numberAt number
+addr-back seq long a false before after told w = rw (sent (wrote-bytes w)) (addr-front seq SUCCESS long a [])
+addr-back seq long a true before after told w = rw (sent (wrote-bytes w)) (addr-front seq SUCCESS long a (0 ∷ 0 ∷ []))
+
+-- ---- all of them
+
+pub replies-read-back : RepliesReadBack
+replies-read-back =
+    record {
+      node = node-reply-back;
+      nodeError = λ seq status a. node-error-back seq a status;
+      power = power-reply-back;
+      powerError = λ seq status a. power-error-back seq a status;
+      active = active-back;
+      activeError = λ seq status a. active-error-back seq a status;
+      match = match-back;
+      matchError = match-error-back;
+      simple = simple-reply-back;
+      simpleError = λ seq status a. simple-error-back seq a status;
+      address = addr-back;
+      addressError = addr-error-back;
+      status = status-reply-back;
+    }

@@ -70,8 +70,11 @@ someNode (node.Some d) = some (nodeFields d)
 someNode node.None = none
 
 -- a node reply: its header, and the fields of its descriptor
+abbrev pub nodeSaid : NodeReply → ReplyHeader × Option NodeDescriptorConfig
+nodeSaid r = (r .header, someNode (r .descriptor))
+
 abbrev pub nodeRead : List ℕ → Outcome (ReplyHeader × Option NodeDescriptorConfig)
-nodeRead reply = mapped (λ r. (r .header, someNode (r .descriptor))) (nodeReplyIn reply)
+nodeRead reply = mapped nodeSaid (nodeReplyIn reply)
 
 -- the fields of a power descriptor, where there is one
 abbrev pub somePower : OptionPowerDescriptor → Option PowerDescriptorConfig
@@ -79,14 +82,16 @@ somePower (power.Some d) = some (powerFields d)
 somePower power.None = none
 
 -- a power reply: its header, and the fields of its descriptor
-abbrev pub powerRead : List ℕ → Outcome (ReplyHeader × Option PowerDescriptorConfig)
-powerRead reply = mapped (λ r. (r .header, somePower (r .descriptor))) (powerReplyIn reply)
+abbrev pub powerSaid : PowerReply → ReplyHeader × Option PowerDescriptorConfig
+powerSaid r = (r .header, somePower (r .descriptor))
 
--- a list, taken from the place that the reader gives
+abbrev pub powerRead : List ℕ → Outcome (ReplyHeader × Option PowerDescriptorConfig)
+powerRead reply = mapped powerSaid (powerReplyIn reply)
+
+-- an active reply: its header, and its endpoints, taken from the place that the reader gives
 abbrev pub listSaid : List ℕ → ListReply → ReplyHeader × List ℕ
 listSaid reply r = (r .header, entriesAt 1 reply (r .list))
 
--- an active reply: its header, and its endpoints
 abbrev pub listRead : List ℕ → Outcome (ReplyHeader × List ℕ)
 listRead reply = mapped (listSaid reply) (listReplyIn reply)
 
@@ -108,8 +113,11 @@ someSimple reply (simple.Some d) = some (simpleFields reply d)
 someSimple reply simple.None = none
 
 -- a simple reply: its header, and the fields of its descriptor
+abbrev pub simpleSaid : List ℕ → SimpleReply → ReplyHeader × Option Endpoint
+simpleSaid reply r = (r .header, someSimple reply (r .descriptor))
+
 abbrev pub simpleRead : List ℕ → Outcome (ReplyHeader × Option Endpoint)
-simpleRead reply = mapped (λ r. (r .header, someSimple reply (r .descriptor))) (simpleReplyIn reply)
+simpleRead reply = mapped (simpleSaid reply) (simpleReplyIn reply)
 
 -- ---- what is to be read
 
