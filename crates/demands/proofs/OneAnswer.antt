@@ -27,6 +27,17 @@ use Rattle.zdo_requests.specs.declared.descriptor.SimpleDescReqRead.the-variant
 use Rattle.zdo_requests.specs.declared.descriptor.MatchDescReqRead.the-variants as matchReq
 use Rattle.zdo_requests.specs.declared.descriptor.BindReqRead.the-variants as bindReq
 use Rattle.zdo_requests.specs.declared.descriptor.MgmtLeaveReqRead.the-variants as leaveReq
+use Rattle.zdo_readers.specs.Answers.{headerSays, nodeDescRspSays, nodeReplySays, powerReplySays, addrReplySays, statusReplySays}
+use Rattle.zdo_readers.specs.declared.readers.ReplyHeaderRead.the-variants as headerReply
+use Rattle.zdo_readers.specs.declared.descriptor.NodeDescRspRead.the-variants as maskReply
+use Rattle.zdo_readers.specs.declared.readers.NodeReplyRead.the-variants as nodeReply
+use Rattle.zdo_readers.specs.declared.readers.PowerReplyRead.the-variants as powerReply
+use Rattle.zdo_readers.specs.declared.readers.AddrReplyRead.the-variants as addrReply
+use Rattle.zdo_readers.specs.declared.readers.StatusReplyRead.the-variants as statusReply
+use Rattle.zdo_list_readers.specs.Answers.{listReplySays, matchReplySays, simpleReplySays}
+use Rattle.zdo_list_readers.specs.declared.readers.ListReplyRead.the-variants as listReply
+use Rattle.zdo_list_readers.specs.declared.readers.MatchReplyRead.the-variants as matchReply
+use Rattle.zdo_list_readers.specs.declared.readers.SimpleReplyRead.the-variants as simpleReply
 use Rattle.zdo_device.specs.Tables.{endpointSays}
 use Rattle.zdo_device.specs.declared.descriptor.EndpointDescriptor.{EndpointDescriptor}
 use Rattle.zdo_device.specs.declared.descriptor.OptionEndpoint.{OptionEndpoint}
@@ -66,7 +77,7 @@ one-matching =
     (elim [ matching.Matched m ↦ refl | matching.Refused why ↦ refused-back matching.Refused why ])
 
 pub one-answer : OneAnswer
-unfolding listsSays nodeSays powerSays simpleSays nwkAddrReqSays ieeeAddrReqSays addrOfInterestReqSays addrOfInterestSays simpleDescReqSays matchDescReqSays bindReqSays mgmtLeaveReqSays
+unfolding listsSays nodeSays powerSays simpleSays nwkAddrReqSays ieeeAddrReqSays addrOfInterestReqSays addrOfInterestSays simpleDescReqSays matchDescReqSays bindReqSays mgmtLeaveReqSays headerSays nodeDescRspSays nodeReplySays powerReplySays addrReplySays statusReplySays listReplySays matchReplySays simpleReplySays
 one-answer =
     record {
       written = one-written;
@@ -83,6 +94,15 @@ one-answer =
       matchReq = determined _ matchReq.Request matchReq.Refused (elim [ matchReq.Request q ↦ refl | matchReq.Refused why ↦ refused-back matchReq.Refused why ]);
       bindReq = determined _ bindReq.Request bindReq.Refused (elim [ bindReq.Request q ↦ refl | bindReq.Refused why ↦ refused-back bindReq.Refused why ]);
       leaveReq = determined _ leaveReq.Request leaveReq.Refused (elim [ leaveReq.Request q ↦ refl | leaveReq.Refused why ↦ refused-back leaveReq.Refused why ]);
+      headerReply = determined _ headerReply.Header headerReply.Refused (elim [ headerReply.Header r ↦ refl | headerReply.Refused why ↦ refused-back headerReply.Refused why ]);
+      maskReply = determined _ maskReply.Reply maskReply.Refused (elim [ maskReply.Reply r ↦ refl | maskReply.Refused why ↦ refused-back maskReply.Refused why ]);
+      nodeReply = determined _ nodeReply.Reply nodeReply.Refused (elim [ nodeReply.Reply r ↦ refl | nodeReply.Refused why ↦ refused-back nodeReply.Refused why ]);
+      powerReply = determined _ powerReply.Reply powerReply.Refused (elim [ powerReply.Reply r ↦ refl | powerReply.Refused why ↦ refused-back powerReply.Refused why ]);
+      addrReply = determined _ addrReply.Reply addrReply.Refused (elim [ addrReply.Reply r ↦ refl | addrReply.Refused why ↦ refused-back addrReply.Refused why ]);
+      statusReply = determined _ statusReply.Reply statusReply.Refused (elim [ statusReply.Reply r ↦ refl | statusReply.Refused why ↦ refused-back statusReply.Refused why ]);
+      listReply = determined _ listReply.Reply listReply.Refused (elim [ listReply.Reply r ↦ refl | listReply.Refused why ↦ refused-back listReply.Refused why ]);
+      matchReply = determined _ matchReply.Reply matchReply.Refused (elim [ matchReply.Reply r ↦ refl | matchReply.Refused why ↦ refused-back matchReply.Refused why ]);
+      simpleReply = determined _ simpleReply.Reply simpleReply.Refused (elim [ simpleReply.Reply r ↦ refl | simpleReply.Refused why ↦ refused-back simpleReply.Refused why ]);
       endpoint = λ a b e. sym (endpoint-back a) ∙ ap endpointFrom e ∙ endpoint-back b;
       matching = one-matching;
       writer = λ o before r s after later p q. let (told, left) = one-wrote o before _ _ after later p q in (one-written r s told, left);

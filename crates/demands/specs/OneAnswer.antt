@@ -15,6 +15,8 @@ use Rattle.aps_binding_table.specs.Table.{Leaves}
 use Rattle.aps_binding_table.specs.declared.binding.BindingTable.{BindingTable}
 use Rattle.aps_binding_table.specs.declared.binding.Linked.{Linked}
 use Rattle.zdo_requests.specs.Answers.{nwkAddrReqSays, ieeeAddrReqSays, addrOfInterestReqSays, addrOfInterestSays, simpleDescReqSays, matchDescReqSays, bindReqSays, mgmtLeaveReqSays}
+use Rattle.zdo_readers.specs.Answers.{headerSays, nodeDescRspSays, nodeReplySays, powerReplySays, addrReplySays, statusReplySays}
+use Rattle.zdo_list_readers.specs.Answers.{listReplySays, matchReplySays, simpleReplySays}
 use Rattle.zdo_device.specs.Tables.{endpointSays}
 use Rattle.zdo_matching.specs.Answers.{matchingSays}
 use Rattle.zdo_matching.specs.declared.descriptor.Matching.{Matching}
@@ -40,6 +42,15 @@ pub record OneAnswer : Type 0 where
   pub matchReq : Determines matchDescReqSays
   pub bindReq : Determines bindReqSays
   pub leaveReq : Determines mgmtLeaveReqSays
+  pub headerReply : Determines headerSays
+  pub maskReply : Determines nodeDescRspSays
+  pub nodeReply : Determines nodeReplySays
+  pub powerReply : Determines powerReplySays
+  pub addrReply : Determines addrReplySays
+  pub statusReply : Determines statusReplySays
+  pub listReply : Determines listReplySays
+  pub matchReply : Determines matchReplySays
+  pub simpleReply : Determines simpleReplySays
   pub endpoint : Determines endpointSays
   pub matching : Determines matchingSays
   pub writer :
