@@ -1,0 +1,88 @@
+-- The two readers of node replies agree: the server mask that one looks for alone is the one that the other's descriptor holds.
+-- Assumes nothing.
+use Prim.Native.Nat.{ℕ, _+_, _≤_}
+use native.Mathlib.Omega.{arith}
+use mathlib.Core.Path.{_≡_, refl}
+use mathlib.Core.Bool.{Bool, true, false, _&&_, cond}
+use mathlib.Core.List.{List}
+use lib.Dec.{eqb, leb}
+use lib.ListN.{length, drop, length-drop}
+use lib.Seq.{drop-drop}
+use borrow.Author.Tests.{leb-true, le-leb}
+use Rattle.zigbee_types.specs.Outcome.{Outcome, answer, andThen, mapped, needing}
+use Rattle.zigbee_types.specs.Bytes.{numberAt}
+use Rattle.zigbee_types.specs.Layout.{size, fieldsAt, fieldOf, parsed}
+use Rattle.zigbee_types.specs.Addresses.{shortOf}
+use Rattle.zigbee_types.specs.Statuses.{SUCCESS}
+use Rattle.zigbee_types.proofs.Outcomes.{refused, granted, mapped-granted}
+use Rattle.node_descriptor.specs.NodeDescriptor.{nodeWidths, nodeDescriptorIn}
+use Rattle.zdo_readers.specs.Readers.{headerWidths, headerIn, describedIn, nodeWith, nodeWithout, nodeReplyIn, serverMaskIn, nodeDescRspIn, stackRevisionOf}
+use Rattle.zdo_readers.specs.declared.descriptor.NodeDescRsp.{NodeDescRsp}
+use Rattle.zdo_readers.specs.declared.descriptor.OptionServerMask.{OptionServerMask}
+use Rattle.zdo_readers.specs.declared.readers.ReplyHeader.{ReplyHeader}
+use Rattle.zdo_readers.specs.declared.readers.NodeReply.{NodeReply}
+use Rattle.zdo_readers.specs.declared.readers.OptionNodeDescriptor.{OptionNodeDescriptor}
+use Rattle.zdo_readers.specs.declared.readers.OptionNodeDescriptor.the-variants as node
+use Rattle.demands.specs.TwoReaders.{maskOf, revisionOf, inBrief, NodeReadersAgree, RevisionsAgree}
+
+-- an answer that needed bytes, and what came next: the bytes are there, and it came
+needed :
+    {A B : Type 0} (n : ℕ) (bytes : List ℕ) (a : A) (next : A → Outcome B) {b : B}
+    → andThen (needing n bytes a) next ≡ answer b
+    → (n ≤ length bytes) × (next a ≡ answer b)
+unfolding andThen needing
+needed n bytes a next {b} e = go (leb n (length bytes)) refl
+  where
+    go : (t : Bool) → leb n (length bytes) ≡ t → (n ≤ length bytes) × (next a ≡ answer b)
+    go true h = (leb-true n (length bytes) h, rw h at e)
+    go false h = absurd (refused (rw h at e))
+
+-- the number at a place behind n bytes
+numberAt-drop : (k n : ℕ) (bytes : List ℕ) (at : ℕ) → numberAt k (drop n bytes) at ≡ numberAt k bytes (n + at)
+unfolding numberAt
+numberAt-drop k n bytes at = rw drop-drop
+
+-- a reply in brief: what its header says, and a server mask
+abbrev rspOf : ReplyHeader → OptionServerMask → NodeDescRsp
+rspOf h m = record { seq = h .seq; status = h .status; «nwk_addr_of_interest» = h .«nwk_addr_of_interest»; «server_mask» = m }
+
+module _ (reply : List ℕ) where
+  -- field 6 of a descriptor behind the header is what stands at byte 12
+  mask-there : fieldOf nodeWidths (drop 4 reply) 6 ≡ numberAt 2 reply 12
+  unfolding nodeWidths fieldsAt
+  mask-there = numberAt-drop 2 4 reply 8
+
+  -- and both its bytes are there where the descriptor is whole
+  mask-long : leb (size nodeWidths) (length (drop 4 reply)) ≡ true → 14 ≤ length reply
+  unfolding nodeWidths size
+  mask-long held = omega (arith, leb-true 13 (length (drop 4 reply)) held, length-drop 4 reply)
+
+  module _ (h : ReplyHeader) (r : NodeReply) where
+    -- what was read behind a header, with SUCCESS or without, is what stands there
+    brief :
+        (b : Bool)
+        → cond b (mapped (nodeWith h) (nodeDescriptorIn (drop 4 reply))) (answer (nodeWithout h)) ≡ answer r
+        → inBrief r ≡ rspOf h (serverMaskIn (b && leb 14 (length reply)) reply)
+    unfolding inBrief serverMaskIn nodeDescriptorIn parsed needing
+    brief true e =
+        let (held, same) = granted (leb (size nodeWidths) (length (drop 4 reply))) _ 3 (rw mapped-granted at e) in
+        rw (le-leb _ _ (mask-long held), ← mask-there) (cc same)
+    brief false e = cc e
+
+pub node-readers-agree : NodeReadersAgree
+unfolding nodeReplyIn nodeDescRspIn describedIn headerIn parsed needing
+node-readers-agree reply r e =
+    let field : ℕ → ℕ = fieldOf headerWidths reply in
+    let h : ReplyHeader = record { seq = field 0; status = field 1; «nwk_addr_of_interest» = shortOf (field 2) } in
+    let (long, came) = needed (size headerWidths) reply h _ e in
+    rw (le-leb _ _ long, brief reply h r (eqb (h .status) SUCCESS) came)
+
+-- the revision of a descriptor is that of its mask
+revision-brief : (d : OptionNodeDescriptor) → stackRevisionOf (maskOf d) ≡ revisionOf d
+unfolding stackRevisionOf
+revision-brief (node.Some d) = refl
+revision-brief node.None = refl
+
+pub revisions-agree : RevisionsAgree
+unfolding mapped inBrief
+revisions-agree reply r e = rw (node-readers-agree reply r e, revision-brief)
