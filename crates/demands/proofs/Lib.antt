@@ -2,6 +2,7 @@ pub mod CounterCases
 pub mod Frames
 pub mod ReadBack
 pub mod ReplyReadBack
+pub mod ReadersRefuse
 pub mod TwoReaders
 pub mod OneAnswer
 pub mod Calls
