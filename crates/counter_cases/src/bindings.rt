@@ -60,25 +60,41 @@ fn bad_tables() {
     let table = bind(BindingTable::new(33), entry_a());
     print_table(unbind(table, entry_a()));
     print::text(b"difference 8");
-    let table = table_of(1, 2, entry_a(), entry_b(), unused());
-    let table = unbind(table, entry_a());
+    let table = unbind(two_held(1), entry_a());
     print_table(bind(table, entry_c()));
+}
+
+// A table of this limit that holds A and B.
+fn two_held(limit: usize) -> BindingTable {
+    table_of(limit, 2, entry_a(), entry_b(), unused())
 }
 
 // A bind of an entry that a full table holds; an unbind of one that is held twice; and a bind and an unbind where something stands
 // behind the places in use.
 fn more_steps() {
-    print::text(b"bind A again in a full table");
-    let table = table_of(2, 2, entry_a(), entry_b(), unused());
-    print_table(bind(table, entry_a()));
-    print::text(b"unbind A of A, B, A");
-    let table = table_of(3, 3, entry_a(), entry_b(), entry_a());
-    print_table(unbind(table, entry_a()));
-    print::text(b"bind B before an unused C");
+    print_bind(b"bind A again in a full table", two_held(2), entry_a());
+    let twice = table_of(3, 3, entry_a(), entry_b(), entry_a());
+    print_unbind_a(b"unbind A of A, B, A", twice);
+    before_unused();
+}
+
+// A bind and an unbind where C stands behind the places in use.
+fn before_unused() {
     let table = table_of(3, 1, entry_a(), unused(), entry_c());
-    print_table(bind(table, entry_b()));
-    print::text(b"unbind A before an unused C");
+    print_bind(b"bind B before an unused C", table, entry_b());
     let table = table_of(3, 2, entry_a(), entry_b(), entry_c());
+    print_unbind_a(b"unbind A before an unused C", table);
+}
+
+// Binds, and prints the table.
+fn print_bind(name: &[u8], table: BindingTable, binding: Binding) {
+    print::text(name);
+    print_table(bind(table, binding));
+}
+
+// Unbinds A, and prints the table.
+fn print_unbind_a(name: &[u8], table: BindingTable) {
+    print::text(name);
     print_table(unbind(table, entry_a()));
 }
 
@@ -134,7 +150,7 @@ fn print_table(table: BindingTable) {
     print_place(0, table.entries[0]);
     print_place(1, table.entries[1]);
     print_place(2, table.entries[2]);
-    print::text(b"\n");
+    print::end_line();
 }
 
 // A line for a place, with all fields of the entry there.
@@ -142,9 +158,9 @@ fn print_place(place: usize, entry: Binding) {
     print::text(b"\n  place");
     print::decimal(place);
     print::byte(entry.src_endpoint);
-    print::hex(entry.cluster_id as u64, 4);
+    print::word(entry.cluster_id);
     print::byte(entry.dst_addr_mode);
-    print::hex(entry.dst_group.0 as u64, 4);
+    print::word(entry.dst_group.0);
     print::hex(entry.dst_ieee.0, 16);
     print::byte(entry.dst_endpoint);
 }
@@ -155,21 +171,21 @@ fn routes() {
     print_flag(entry_a().matches(1, 0x0402));
     print_flag(entry_a().matches(2, 0x0402));
     print_flag(entry_a().matches(1, 0x0403));
-    print::text(b"\n");
+    print::end_line();
 }
 
 // Whether A equals itself, and each entry that differs from it in one field, in the address once at each end.
 fn equal() {
     print::text(b"A equals");
-    print_equal(entry_of(1, 0x0402, 1, 0x0003, 0, 0));
-    print_equal(entry_of(2, 0x0402, 1, 0x0003, 0, 0));
-    print_equal(entry_of(1, 0x0403, 1, 0x0003, 0, 0));
-    print_equal(entry_of(1, 0x0402, 3, 0x0003, 0, 0));
-    print_equal(entry_of(1, 0x0402, 1, 0x0004, 0, 0));
-    print_equal(entry_of(1, 0x0402, 1, 0x0003, 1, 0));
-    print_equal(entry_of(1, 0x0402, 1, 0x0003, 0x8000000000000000, 0));
-    print_equal(entry_of(1, 0x0402, 1, 0x0003, 0, 1));
-    print::text(b"\n");
+    print_equal(1, 0x0402, 1, 0x0003, 0, 0);
+    print_equal(2, 0x0402, 1, 0x0003, 0, 0);
+    print_equal(1, 0x0403, 1, 0x0003, 0, 0);
+    print_equal(1, 0x0402, 3, 0x0003, 0, 0);
+    print_equal(1, 0x0402, 1, 0x0004, 0, 0);
+    print_equal(1, 0x0402, 1, 0x0003, 1, 0);
+    print_equal(1, 0x0402, 1, 0x0003, 0x8000000000000000, 0);
+    print_equal(1, 0x0402, 1, 0x0003, 0, 1);
+    print::end_line();
 }
 
 // The two mode numbers.
@@ -177,30 +193,26 @@ fn modes() {
     print::text(b"modes");
     print::byte(Binding::GROUP);
     print::byte(Binding::DEVICE);
-    print::text(b"\n");
+    print::end_line();
 }
 
-// The entry of these fields, in the order in which they are printed.
-fn entry_of(
+// Whether A equals the entry of these fields, in the order in which they are printed.
+fn print_equal(
     src_endpoint: u8,
     cluster_id: u16,
     dst_addr_mode: u8,
     dst_group: u16,
     dst_ieee: u64,
     dst_endpoint: u8,
-) -> Binding {
-    Binding {
+) {
+    let entry = Binding {
         dst_ieee: IeeeAddress(dst_ieee),
         cluster_id,
         src_endpoint,
         dst_addr_mode,
         dst_group: GroupAddress(dst_group),
         dst_endpoint,
-    }
-}
-
-// Whether A equals an entry.
-fn print_equal(entry: Binding) {
+    };
     print_flag(entry_a().eq(entry));
 }
 

@@ -14,6 +14,7 @@ use power_names::PowerSource;
 use simple_descriptor::SimpleDescriptorFields;
 use simple_descriptor::SimpleDescriptorRead;
 use simple_descriptor::descriptor;
+ghost use Prim.Native.Nat.{_≤_};
 
 // Our device (document 01, "Counter-cases").
 pub(crate) fn our_node() -> NodeDescriptorConfig {
@@ -44,31 +45,37 @@ pub(crate) fn our_power() -> PowerDescriptorConfig {
 
 // The descriptor in K1's reply, and that it does not fit into a byte less.
 pub(crate) fn k1() {
+    print_our_node(b"K1 descriptor", 14);
+    print_our_node(b"K1 12 bytes", 12);
+}
+
+// A line for our device's descriptor in a buffer of so many bytes.
+fn print_our_node(name: &[u8], room: usize)
+    requires { ⌜ room ≤ 14 ⌝ }
+{
+    print::text(name);
     let mut out = [0xEEu8; 14];
-    print::text(b"K1 descriptor");
-    print::written(our_node().write(&mut out), &out);
-    let mut short = [0xEEu8; 12];
-    print::text(b"K1 12 bytes");
-    print::written(our_node().write(&mut short), &short);
+    let buffer = &mut out[0..room];
+    let written = our_node().write(buffer);
+    print::written(written, buffer);
 }
 
 // The stack revision of that descriptor, read from its bytes, and that twelve of them are refused.
 pub(crate) fn k2() {
     let mut out = [0xEEu8; 13];
     our_node().write(&mut out);
-    print::text(b"K2");
-    print_revision(&out);
-    print::text(b"K2 12 bytes");
-    print_revision(&out[0..12]);
+    print_revision(b"K2", &out);
+    print_revision(b"K2 12 bytes", &out[0..12]);
 }
 
-// The stack revision of the node descriptor in bytes.
-fn print_revision(bytes: &[u8]) {
+// A line for the stack revision of the node descriptor in bytes.
+fn print_revision(name: &[u8], bytes: &[u8]) {
+    print::text(name);
     match NodeDescriptor::try_read(bytes) {
         NodeDescriptorRead::Descriptor(d) => print::decimal(revision(d)),
         NodeDescriptorRead::Refused(why) => print::refusal(why),
     }
-    print::text(b"\n");
+    print::end_line();
 }
 
 // The stack revision in a descriptor's server mask.
@@ -83,32 +90,37 @@ pub(crate) fn k3() {
     NodeDescriptorConfig::default().write(&mut out);
     print::text(b"K3");
     print::byte(out[0]);
-    print::text(b"\n");
+    print::end_line();
 }
 
 // Our device's power bytes, and what the reader makes of the three pairs.
 pub(crate) fn k4() {
-    let mut out = [0xEEu8; 3];
-    print::text(b"K4 written");
-    print::written(our_power().write(&mut out), &out);
-    let mut short = [0xEEu8; 1];
-    print::text(b"K4 1 byte");
-    print::written(our_power().write(&mut short), &short);
-    print::text(b"K4 42 84");
-    print_power(&[0x42, 0x84]);
-    print::text(b"K4 22 84");
-    print_power(&[0x22, 0x84]);
-    print::text(b"K4 32 83");
-    print_power(&[0x32, 0x83]);
+    print_our_power(b"K4 written", 3);
+    print_our_power(b"K4 1 byte", 1);
+    print_power(b"K4 42 84", &[0x42, 0x84]);
+    print_power(b"K4 22 84", &[0x22, 0x84]);
+    print_power(b"K4 32 83", &[0x32, 0x83]);
 }
 
-// The fields of the power descriptor in bytes: mode, available sources, source, level.
-fn print_power(bytes: &[u8; 2]) {
+// A line for our device's power in a buffer of so many bytes.
+fn print_our_power(name: &[u8], room: usize)
+    requires { ⌜ room ≤ 3 ⌝ }
+{
+    print::text(name);
+    let mut out = [0xEEu8; 3];
+    let buffer = &mut out[0..room];
+    let written = our_power().write(buffer);
+    print::written(written, buffer);
+}
+
+// A line for the fields of the power descriptor in bytes: mode, available sources, source, level.
+fn print_power(name: &[u8], bytes: &[u8; 2]) {
+    print::text(name);
     match NodePowerDescriptor::try_read(bytes) {
         NodePowerDescriptorRead::Descriptor(d) => print_power_fields(d),
         NodePowerDescriptorRead::Refused(why) => print::refusal(why),
     }
-    print::text(b"\n");
+    print::end_line();
 }
 
 // The numbers of a power descriptor's fields.
@@ -134,28 +146,37 @@ pub(crate) fn k5() {
     );
     print::text(b"K5 descriptor");
     print::written(written, &out);
-    print::text(b"K5 fields");
-    print_simple(&out);
-    print::text(b"difference 3");
-    print_simple(&[0x01, 0x04, 0x01, 0x02, 0x03, 0x01, 0x00, 0x01, 0x19]);
-    print::text(b"difference 4");
-    print_simple(&[0x01, 0x04, 0x01, 0x02, 0x03, 0x11, 0x00, 0x00]);
+    print_simple(b"K5 fields", &out);
+    differences();
 }
 
-// The fields of the simple descriptor in bytes.
-fn print_simple(bytes: &[u8]) {
+// The descriptors of docs/DIFFERENCES.md's nos. 3 and 4.
+fn differences() {
+    print_simple(
+        b"difference 3",
+        &[0x01, 0x04, 0x01, 0x02, 0x03, 0x01, 0x00, 0x01, 0x19],
+    );
+    print_simple(
+        b"difference 4",
+        &[0x01, 0x04, 0x01, 0x02, 0x03, 0x11, 0x00, 0x00],
+    );
+}
+
+// A line for the fields of the simple descriptor in bytes.
+fn print_simple(name: &[u8], bytes: &[u8]) {
+    print::text(name);
     match SimpleDescriptorFields::try_read(bytes) {
         SimpleDescriptorRead::Descriptor(d) => print_simple_fields(d),
         SimpleDescriptorRead::Refused(why) => print::refusal(why),
     }
-    print::text(b"\n");
+    print::end_line();
 }
 
 // A simple descriptor's fields, each list by its place and its count.
 fn print_simple_fields(d: SimpleDescriptorFields) {
     print::byte(d.endpoint);
-    print::hex(d.profile_id as u64, 4);
-    print::hex(d.device_id as u64, 4);
+    print::word(d.profile_id);
+    print::word(d.device_id);
     print::byte(d.device_version);
     print::decimal(d.input_clusters.start);
     print::decimal(d.input_clusters.count);
@@ -165,16 +186,17 @@ fn print_simple_fields(d: SimpleDescriptorFields) {
 
 // A descriptor of 28 clusters of zeros, and one of 29, for which there is room.
 pub(crate) fn k6() {
-    let mut out = [0xEEu8; 65];
-    print::text(b"K6 28 clusters");
-    print::written(
-        descriptor::write(1, 0x0104, 0x0302, 0x11, &[0; 28], &[], &mut out),
-        &out,
-    );
+    print_zeros(b"K6 28 clusters", &[], 65);
+    print_zeros(b"K6 29 clusters", &[0], 66);
+}
+
+// A line for the descriptor of 28 inputs of zeros and these outputs, in a buffer of so many bytes.
+fn print_zeros(name: &[u8], outputs: &[u16], room: usize)
+    requires { ⌜ room ≤ 66 ⌝ }
+{
+    print::text(name);
     let mut out = [0xEEu8; 66];
-    print::text(b"K6 29 clusters");
-    print::written(
-        descriptor::write(1, 0x0104, 0x0302, 0x11, &[0; 28], &[0], &mut out),
-        &out,
-    );
+    let buffer = &mut out[0..room];
+    let written = descriptor::write(1, 0x0104, 0x0302, 0x11, &[0; 28], outputs, buffer);
+    print::written(written, buffer);
 }

@@ -69,45 +69,77 @@ pub(crate) fn our_device(count: usize) -> DeviceDescriptorConfig {
 
 // The simple replies of endpoint 1, of endpoint 2, and of a number that no record in use has, at last with a bad pool.
 pub(crate) fn k5() {
+    three_rooms(b"K5 reply", 1, 19);
+    print_our_simple(b"simple reply of 2", 2, 17);
+    three_rooms(b"simple reply of 3", 3, 5);
     let device = our_device(2);
-    print_simple(b"K5 reply", device, 1, &INPUTS, &OUTPUTS, 21);
-    print_simple(b"K5 reply", device, 1, &INPUTS, &OUTPUTS, 19);
-    print_simple(b"K5 reply", device, 1, &INPUTS, &OUTPUTS, 18);
-    print_simple(b"simple reply of 2", device, 2, &INPUTS, &OUTPUTS, 17);
-    print_simple(b"simple reply of 3", device, 3, &INPUTS, &OUTPUTS, 7);
-    print_simple(b"simple reply of 3", device, 3, &INPUTS, &OUTPUTS, 5);
-    print_simple(b"simple reply of 3", device, 3, &INPUTS, &OUTPUTS, 4);
     print_simple(b"of 3, short outputs", device, 3, &INPUTS, &[], 4);
+}
+
+// Lines for the simple reply of our device: in a buffer with two bytes to spare, in one of the reply's length, and in one of a byte
+// less.
+fn three_rooms(name: &[u8], number: u8, length: usize)
+    requires { ⌜ (1 ≤ length) × (length ≤ 69) ⌝ }
+{
+    print_our_simple(name, number, length + 2);
+    print_our_simple(name, number, length);
+    print_our_simple(name, number, length - 1);
+}
+
+// A line for the simple reply of our device.
+fn print_our_simple(name: &[u8], number: u8, room: usize)
+    requires { ⌜ room ≤ 71 ⌝ }
+{
+    print_simple(name, our_device(2), number, &INPUTS, &OUTPUTS, room);
 }
 
 // The simple replies of 27 inputs and an output, and of an input more: for this there is room, there is not, and its pool is too
 // short as well.
 pub(crate) fn k6() {
+    print_zeros(b"K6 reply of 28", 27, 70);
+    print_zeros(b"K6 reply of 28", 27, 69);
+    print_zeros(b"K6 reply of 28", 27, 68);
+    print_zeros(b"K6 reply of 29", 28, 71);
+    print_zeros(b"K6 reply of 29", 28, 4);
+    let device = device_of_inputs(28);
+    print_simple(b"K6 short pool", device, 1, &[0; 27], &OUTPUTS, 4);
+}
+
+// A line for the simple reply of so many inputs, of a pool of 28 zeros, and an output.
+fn print_zeros(name: &[u8], count: u16, room: usize)
+    requires { ⌜ room ≤ 71 ⌝ }
+{
+    let device = device_of_inputs(count);
+    print_simple(name, device, 1, &[0; 28], &OUTPUTS, room);
+}
+
+// A device of one endpoint, which is our endpoint 1 but for its number of inputs.
+fn device_of_inputs(count: u16) -> DeviceDescriptorConfig {
     let mut first = ENDPOINT_1;
     let mut device = our_device(1);
-    first.input_count = 27;
+    first.input_count = count;
     device.endpoints[0] = first;
-    print_simple(b"K6 reply of 28", device, 1, &[0; 28], &OUTPUTS, 70);
-    print_simple(b"K6 reply of 28", device, 1, &[0; 28], &OUTPUTS, 69);
-    print_simple(b"K6 reply of 28", device, 1, &[0; 28], &OUTPUTS, 68);
-    first.input_count = 28;
-    device.endpoints[0] = first;
-    print_simple(b"K6 reply of 29", device, 1, &[0; 28], &OUTPUTS, 71);
-    print_simple(b"K6 reply of 29", device, 1, &[0; 28], &OUTPUTS, 4);
-    print_simple(b"K6 short pool", device, 1, &[0; 27], &OUTPUTS, 4);
+    device
 }
 
 // Our endpoints, and a number that we have not; endpoint 2 where one record is in use; a number that none of the 32 records has,
 // where the count says that there are more; and the active replies of our device and of one without records.
 pub(crate) fn others() {
-    let device = our_device(2);
-    print_endpoint(b"our", device, 1, &INPUTS, &OUTPUTS);
-    print_endpoint(b"our", device, 2, &INPUTS, &OUTPUTS);
-    print_endpoint(b"our", device, 3, &INPUTS, &OUTPUTS);
-    let device = our_device(1);
-    print_endpoint(b"unused", device, 2, &INPUTS, &OUTPUTS);
-    let device = our_device(0xFFFFFFFFFFFFFFFF);
-    print_endpoint(b"largest count", device, 3, &INPUTS, &OUTPUTS);
+    print_our_endpoint(b"our", 2, 1);
+    print_our_endpoint(b"our", 2, 2);
+    print_our_endpoint(b"our", 2, 3);
+    print_our_endpoint(b"unused", 1, 2);
+    print_our_endpoint(b"largest count", 0xFFFFFFFFFFFFFFFF, 3);
+    active_replies();
+}
+
+// A line for an endpoint number of our device, with so many records in use.
+fn print_our_endpoint(name: &[u8], count: usize, number: u8) {
+    print_endpoint(name, our_device(count), number, &INPUTS, &OUTPUTS);
+}
+
+// The active replies of our device, in three buffers, and of one without records.
+fn active_replies() {
     let device = our_device(2);
     print_active(b"active reply", device, 9);
     print_active(b"active reply", device, 7);
@@ -127,43 +159,39 @@ pub(crate) fn print_endpoint<'a>(
     print::text(b" endpoint");
     print::byte(number);
     print::decimal(device.supports_endpoint(number) as usize);
-    let found = device.endpoint(number);
-    match found {
-        OptionEndpoint::Some(record) => {
-            print::byte(record.endpoint);
-            print::byte(record.device_version);
-            print::word(record.profile_id);
-            print::word(record.device_id);
-            print::decimal(record.input_start as usize);
-            print::decimal(record.input_count as usize);
-            print::decimal(record.output_start as usize);
-            print::decimal(record.output_count as usize);
-        }
-        OptionEndpoint::None => print::text(b" none"),
-    }
+    print_found(device.endpoint(number));
     print::text(b" inputs");
-    print_clusters(device.endpoint_clusters(Side::Input, number, inputs, outputs));
+    print::words(device.endpoint_clusters(Side::Input, number, inputs, outputs));
     print::text(b" outputs");
-    print_clusters(device.endpoint_clusters(Side::Output, number, inputs, outputs));
-    print::text(b"\n");
+    print::words(device.endpoint_clusters(Side::Output, number, inputs, outputs));
+    print::end_line();
 }
 
-// Clusters, with a space before each.
-fn print_clusters(clusters: &[u16]) {
-    let mut i: usize = 0;
-    while i < clusters.len() {
-        print::word(clusters[i]);
-        i += 1;
+// All fields of a record, if one was found.
+fn print_found(found: OptionEndpoint) {
+    match found {
+        OptionEndpoint::Some(record) => print_record(record),
+        OptionEndpoint::None => print::text(b" none"),
     }
+}
+
+// All fields of a record.
+fn print_record(record: EndpointDescriptor) {
+    print::byte(record.endpoint);
+    print::byte(record.device_version);
+    print::word(record.profile_id);
+    print::word(record.device_id);
+    print::decimal(record.input_start as usize);
+    print::decimal(record.input_count as usize);
+    print::decimal(record.output_start as usize);
+    print::decimal(record.output_count as usize);
 }
 
 // A line for the active reply in a buffer of so many bytes.
 pub(crate) fn print_active(name: &[u8], device: DeviceDescriptorConfig, room: usize)
     requires { ⌜ room ≤ 9 ⌝ }
 {
-    print::text(name);
-    print::text(b" room");
-    print::decimal(room);
+    print::room(name, room);
     let mut out = [0xEEu8; 9];
     let buffer = &mut out[0..room];
     let written = active_ep_rsp(device, 7, ShortAddress(0x1234), buffer);
@@ -181,9 +209,7 @@ pub(crate) fn print_simple<'a>(
 )
     requires { ⌜ room ≤ 71 ⌝ }
 {
-    print::text(name);
-    print::text(b" room");
-    print::decimal(room);
+    print::room(name, room);
     let mut out = [0xEEu8; 71];
     let buffer = &mut out[0..room];
     let written = simple_desc_rsp(

@@ -71,14 +71,14 @@ pub(crate) fn k10() {
     print::byte(fields.seq);
     print::hex(fields.src_address.0, 16);
     print::byte(fields.src_endpoint);
-    print::hex(fields.cluster_id as u64, 4);
+    print::word(fields.cluster_id);
     print::byte(fields.dst_addr_mode);
-    print::hex(fields.dst_group.0 as u64, 4);
+    print::word(fields.dst_group.0);
     let mut out = [0xEEu8; 16];
     put(fields, &mut out);
     print::text(b"\nK10 bytes");
     print_buffer(&out);
-    print::text(b"\n");
+    print::end_line();
 }
 
 // Lends the array as a slice, for which its length must be known.

@@ -8,6 +8,18 @@ pub(crate) fn text(characters: &[u8]) {
     io::write_all(STDOUT_FILENO, characters);
 }
 
+// The end of a line.
+pub(crate) fn end_line() {
+    text(b"\n");
+}
+
+// A name, and how much room a buffer has.
+pub(crate) fn room(name: &[u8], room: usize) {
+    text(name);
+    text(b" room");
+    decimal(room);
+}
+
 // A number of so many hexadecimal digits, with a space before it.
 pub(crate) fn hex(n: u64, digits: usize) {
     text(b" ");
@@ -39,6 +51,15 @@ pub(crate) fn bytes(bytes: &[u8]) {
     }
 }
 
+// Numbers of two bytes in hexadecimal, with a space before each.
+pub(crate) fn words(words: &[u16]) {
+    let mut i: usize = 0;
+    while i < words.len() {
+        word(words[i]);
+        i += 1;
+    }
+}
+
 // A refusal: `R` and its number, with a space before them.
 pub(crate) fn refusal(why: Refusal) {
     text(b" R");
@@ -52,5 +73,5 @@ pub(crate) fn written(written: Written, buffer: &[u8]) {
         Written::Refused(why) => refusal(why),
     }
     bytes(buffer);
-    text(b"\n");
+    end_line();
 }

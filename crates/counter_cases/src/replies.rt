@@ -97,9 +97,7 @@ fn three_rooms(name: &[u8], frame: Frame, length: usize)
 fn print_frame(name: &[u8], frame: Frame, room: usize)
     requires { ⌜ room ≤ 19 ⌝ }
 {
-    print::text(name);
-    print::text(b" room");
-    print::decimal(room);
+    print::room(name, room);
     let mut out = [0xEEu8; 19];
     let buffer = &mut out[0..room];
     let written = write(frame, buffer);
@@ -138,42 +136,61 @@ fn write_error(kind: ErrorKind, error: DiscoveryError, out: &mut [u8]) -> Writte
     }
 }
 
-// Match replies of 256 endpoints, in a buffer that is long enough and in one that is not, and one of 255. Of the buffer are
-// printed the byte of the count, that of the first endpoint, and the last two.
+// Match replies of 256 endpoints, in a buffer that is long enough and in one that is not, and one of 255.
 pub(crate) fn many_matches() {
+    print_many(b"256 matches", 256, 261);
+    print_many(b"256 matches", 256, 260);
+    print_many(b"255 matches", 255, 261);
+}
+
+// A line for the match reply of so many endpoints. Of the buffer are printed the byte of the count, that of the first endpoint, and
+// the last two.
+fn print_many(name: &[u8], count: usize, room: usize)
+    requires { ⌜ (count ≤ 256) × ((2 ≤ room) × (room ≤ 261)) ⌝ }
+{
+    print::room(name, room);
     let mut matches = [0x77u8; 256];
     matches[0] = 0xF1;
     matches[255] = 0xF2;
     let mut out = [0xEEu8; 261];
-    let written = match_desc_rsp(0x21, ShortAddress(0x1234), &matches, &mut out);
-    print::text(b"256 matches room 261");
-    print::written(written, &[out[4], out[5], out[259], out[260]]);
-    let mut out = [0xEEu8; 260];
-    let written = match_desc_rsp(0x21, ShortAddress(0x1234), &matches, &mut out);
-    print::text(b"256 matches room 260");
-    print::written(written, &[out[4], out[5], out[258], out[259]]);
-    let mut out = [0xEEu8; 261];
-    let written = match_desc_rsp(0x21, ShortAddress(0x1234), &matches[0..255], &mut out);
-    print::text(b"255 matches room 261");
-    print::written(written, &[out[4], out[5], out[259], out[260]]);
+    let short = ShortAddress(0x1234);
+    let written = match_desc_rsp(0x21, short, &matches[0..count], &mut out[0..room]);
+    print::written(written, &[out[4], out[5], out[room - 2], out[room - 1]]);
 }
 
 // The status for each of the Rust's reasons.
 pub(crate) fn codes() {
+    bind_codes();
+    discovery_codes();
+    leave_codes();
+}
+
+// Those of a bind request.
+fn bind_codes() {
     print::text(b"bind codes");
     print::byte(BindStatus::Success.code());
     print::byte(BindStatus::InvalidEndpoint.code());
     print::byte(BindStatus::TableFull.code());
     print::byte(BindStatus::NoEntry.code());
     print::byte(BindStatus::NotSupported.code());
-    print::text(b"\ndiscovery codes");
+    print::end_line();
+}
+
+// Those of a discovery request.
+fn discovery_codes() {
+    print::text(b"discovery codes");
     print::byte(DiscoveryError::InvalidRequestType.code());
     print::byte(DiscoveryError::DeviceNotFound.code());
-    print::text(b"\nleave codes");
+    print::end_line();
+}
+
+// Those of a leave request.
+fn leave_codes() {
+    print::text(b"leave codes");
     print::byte(leave_status(NlmeLeaveStatus::Success));
     print::byte(leave_status(NlmeLeaveStatus::InvalidRequest));
     print::byte(leave_status(NlmeLeaveStatus::UnknownDevice));
     print::byte(leave_status(NlmeLeaveStatus::MacError));
     print::byte(leave_status(NlmeLeaveStatus::NotAuthorized));
-    print::text(b"\n");
+    print::end_line();
 }

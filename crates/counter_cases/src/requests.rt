@@ -56,20 +56,40 @@ pub(crate) fn k10() {
         Kind::Bind,
         b"\x11\x18\x17\x16\x15\x14\x13\x12\x11\x02\x06\x05\x03\xF1\xF2\xF3\xF4\xF5\xF6\xF7\xF8\x09\xEE",
     );
+    bind_mode(b"bind mode 2", 2);
+    bind_mode(b"bind mode 0", 0);
+    bind_mode(b"bind mode 7", 7);
+}
+
+// A line for the request to a device with another mode.
+fn bind_mode(name: &[u8], mode: u8) {
     print_request(
-        b"bind mode 2",
+        name,
         Kind::Bind,
-        b"\x11\x18\x17\x16\x15\x14\x13\x12\x11\x02\x06\x05\x02\xF1\xF2\xF3\xF4\xF5\xF6\xF7\xF8\x09",
-    );
-    print_request(
-        b"bind mode 0",
-        Kind::Bind,
-        b"\x11\x18\x17\x16\x15\x14\x13\x12\x11\x02\x06\x05\x00\xF1\xF2\xF3\xF4\xF5\xF6\xF7\xF8\x09",
-    );
-    print_request(
-        b"bind mode 7",
-        Kind::Bind,
-        b"\x11\x18\x17\x16\x15\x14\x13\x12\x11\x02\x06\x05\x07\xF1\xF2\xF3\xF4\xF5\xF6\xF7\xF8\x09",
+        &[
+            0x11,
+            0x18,
+            0x17,
+            0x16,
+            0x15,
+            0x14,
+            0x13,
+            0x12,
+            0x11,
+            0x02,
+            0x06,
+            0x05,
+            mode,
+            0xF1,
+            0xF2,
+            0xF3,
+            0xF4,
+            0xF5,
+            0xF6,
+            0xF7,
+            0xF8,
+            0x09,
+        ],
     );
 }
 
@@ -111,32 +131,52 @@ pub(crate) fn leave() {
 
 // The clusters of 000's ten requests, those of their replies, which are 0x8000 more, and the two types of an address request.
 pub(crate) fn numbers() {
-    print::text(b"request clusters");
-    print::hex(descriptor::NWK_ADDR_REQ as u64, 4);
-    print::hex(descriptor::IEEE_ADDR_REQ as u64, 4);
-    print::hex(descriptor::NODE_DESC_REQ as u64, 4);
-    print::hex(descriptor::POWER_DESC_REQ as u64, 4);
-    print::hex(descriptor::SIMPLE_DESC_REQ as u64, 4);
-    print::hex(descriptor::ACTIVE_EP_REQ as u64, 4);
-    print::hex(descriptor::MATCH_DESC_REQ as u64, 4);
-    print::hex(descriptor::BIND_REQ as u64, 4);
-    print::hex(descriptor::UNBIND_REQ as u64, 4);
-    print::hex(descriptor::MGMT_LEAVE_REQ as u64, 4);
-    print::text(b"\nreply clusters");
-    print::hex(descriptor::NWK_ADDR_RSP as u64, 4);
-    print::hex(descriptor::IEEE_ADDR_RSP as u64, 4);
-    print::hex(descriptor::NODE_DESC_RSP as u64, 4);
-    print::hex(descriptor::POWER_DESC_RSP as u64, 4);
-    print::hex(descriptor::SIMPLE_DESC_RSP as u64, 4);
-    print::hex(descriptor::ACTIVE_EP_RSP as u64, 4);
-    print::hex(descriptor::MATCH_DESC_RSP as u64, 4);
-    print::hex(descriptor::BIND_RSP as u64, 4);
-    print::hex(descriptor::UNBIND_RSP as u64, 4);
-    print::hex(descriptor::MGMT_LEAVE_RSP as u64, 4);
-    print::text(b"\nrequest types");
+    request_clusters();
+    reply_clusters();
+    print::text(b"request types");
     print::byte(descriptor::ADDR_REQUEST_SINGLE);
     print::byte(descriptor::ADDR_REQUEST_EXTENDED);
-    print::text(b"\n");
+    print::end_line();
+}
+
+// The clusters of the requests.
+fn request_clusters() {
+    print::text(b"request clusters");
+    print::words(
+        &[
+            descriptor::NWK_ADDR_REQ,
+            descriptor::IEEE_ADDR_REQ,
+            descriptor::NODE_DESC_REQ,
+            descriptor::POWER_DESC_REQ,
+            descriptor::SIMPLE_DESC_REQ,
+            descriptor::ACTIVE_EP_REQ,
+            descriptor::MATCH_DESC_REQ,
+            descriptor::BIND_REQ,
+            descriptor::UNBIND_REQ,
+            descriptor::MGMT_LEAVE_REQ,
+        ],
+    );
+    print::end_line();
+}
+
+// The clusters of the replies.
+fn reply_clusters() {
+    print::text(b"reply clusters");
+    print::words(
+        &[
+            descriptor::NWK_ADDR_RSP,
+            descriptor::IEEE_ADDR_RSP,
+            descriptor::NODE_DESC_RSP,
+            descriptor::POWER_DESC_RSP,
+            descriptor::SIMPLE_DESC_RSP,
+            descriptor::ACTIVE_EP_RSP,
+            descriptor::MATCH_DESC_RSP,
+            descriptor::BIND_RSP,
+            descriptor::UNBIND_RSP,
+            descriptor::MGMT_LEAVE_RSP,
+        ],
+    );
+    print::end_line();
 }
 
 // Lines for a request with a byte too many, without that, and without the last byte that it needs.
@@ -153,6 +193,12 @@ fn print_request(name: &[u8], kind: Kind, asdu: &[u8]) {
     print::text(name);
     print::text(b" length");
     print::decimal(asdu.len());
+    print_fields(kind, asdu);
+    print::end_line();
+}
+
+// The fields of a request, or the refusal.
+fn print_fields(kind: Kind, asdu: &[u8]) {
     match kind {
         Kind::NwkAddress => print_nwk_addr(asdu),
         Kind::IeeeAddress => print_ieee_addr(asdu),
@@ -162,7 +208,6 @@ fn print_request(name: &[u8], kind: Kind, asdu: &[u8]) {
         Kind::Bind => print_bind(asdu),
         Kind::Leave => print_leave(asdu),
     }
-    print::text(b"\n");
 }
 
 // The fields of a NWK_addr_req.
@@ -182,7 +227,7 @@ fn print_ieee_addr(asdu: &[u8]) {
     match descriptor::parse_ieee_addr_req(asdu) {
         IeeeAddrReqRead::Request(request) => {
             print::byte(request.seq);
-            print::hex(request.nwk_addr_of_interest.0 as u64, 4);
+            print::word(request.nwk_addr_of_interest.0);
             print::byte(request.request_type);
         }
         IeeeAddrReqRead::Refused(why) => print::refusal(why),
@@ -194,12 +239,12 @@ fn print_node(asdu: &[u8]) {
     match descriptor::parse_addr_of_interest_req(asdu) {
         AddrOfInterestReqRead::Request(request) => {
             print::byte(request.seq);
-            print::hex(request.nwk_addr_of_interest.0 as u64, 4);
+            print::word(request.nwk_addr_of_interest.0);
         }
         AddrOfInterestReqRead::Refused(why) => print::refusal(why),
     }
     match descriptor::parse_addr_of_interest(asdu) {
-        AddrOfInterestRead::Address(address) => print::hex(address.0 as u64, 4),
+        AddrOfInterestRead::Address(address) => print::word(address.0),
         AddrOfInterestRead::Refused(why) => print::refusal(why),
     }
 }
@@ -209,7 +254,7 @@ fn print_simple(asdu: &[u8]) {
     match descriptor::parse_simple_desc_req(asdu) {
         SimpleDescReqRead::Request(request) => {
             print::byte(request.seq);
-            print::hex(request.nwk_addr_of_interest.0 as u64, 4);
+            print::word(request.nwk_addr_of_interest.0);
             print::byte(request.endpoint);
         }
         SimpleDescReqRead::Refused(why) => print::refusal(why),
@@ -221,8 +266,8 @@ fn print_match(asdu: &[u8]) {
     match parse_match_desc_req(asdu) {
         MatchDescReqRead::Request(request) => {
             print::byte(request.seq);
-            print::hex(request.nwk_addr_of_interest.0 as u64, 4);
-            print::hex(request.profile_id as u64, 4);
+            print::word(request.nwk_addr_of_interest.0);
+            print::word(request.profile_id);
             print::decimal(request.input_clusters.start);
             print::decimal(request.input_clusters.count);
             print::decimal(request.output_clusters.start);
@@ -239,21 +284,26 @@ fn print_bind(asdu: &[u8]) {
             print::byte(request.seq);
             print::hex(request.src_address.0, 16);
             print::byte(request.src_endpoint);
-            print::hex(request.cluster_id as u64, 4);
+            print::word(request.cluster_id);
             let destination = request.destination;
-            match destination {
-                BindReqDestination::Group(group) => {
-                    print::text(b" group");
-                    print::hex(group.0 as u64, 4);
-                }
-                BindReqDestination::Device { ieee, endpoint } => {
-                    print::text(b" device");
-                    print::hex(ieee.0, 16);
-                    print::byte(endpoint);
-                }
-            }
+            print_destination(destination);
         }
         BindReqRead::Refused(why) => print::refusal(why),
+    }
+}
+
+// A group, or a device and its endpoint.
+fn print_destination(destination: BindReqDestination) {
+    match destination {
+        BindReqDestination::Group(group) => {
+            print::text(b" group");
+            print::word(group.0);
+        }
+        BindReqDestination::Device { ieee, endpoint } => {
+            print::text(b" device");
+            print::hex(ieee.0, 16);
+            print::byte(endpoint);
+        }
     }
 }
 

@@ -1,18 +1,18 @@
--- `device::print_clusters` is safe and ends: it goes through the clusters from the front. Assumes nothing.
+-- `print::words` is safe and ends: it goes through the numbers from the front. Assumes nothing.
 use Prim.Native.Nat.{_≤_, _-_}
 use lib.ListN.{length}
 use borrow.Author.Needs.{needs}
-use Rattle.counter_cases.proofs.device.print_clusters.Statement.{statement}
-use Rattle.counter_cases.proofs.device.print_clusters.Tie as tie
+use Rattle.counter_cases.proofs.print.words.Statement.{statement}
+use Rattle.counter_cases.proofs.print.words.Tie as tie
 
 abbrev Inv-loop : tie.InvT-loop
-Inv-loop clusters i₀ i = i ≤ length clusters
+Inv-loop words i₀ i = i ≤ length words
 
 abbrev μ-loop : tie.MeasureT-loop
-μ-loop clusters i₀ i = length clusters - i
+μ-loop words i₀ i = length words - i
 
-pub print-clusters-spec : {M : Type 1} → statement M
-print-clusters-spec =
+pub words-spec : {M : Type 1} → statement M
+words-spec =
     tie.close
     (tie.spec
     Inv-loop
