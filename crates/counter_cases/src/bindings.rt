@@ -11,24 +11,15 @@ use zdo_replies::descriptor::BindStatus;
 use zigbee_types::GroupAddress;
 use zigbee_types::IeeeAddress;
 
-// The entry of K10's request.
-fn entry_a() -> Binding {
-    Binding::group(1, 0x0402, GroupAddress(0x0003))
-}
-
-// The same to another group.
-fn entry_b() -> Binding {
-    Binding::group(1, 0x0402, GroupAddress(0x0004))
-}
-
-// The same to endpoint 1 of a device.
-fn entry_c() -> Binding {
-    Binding::device(1, 0x0402, IeeeAddress(0xF8F7F6F5F4F3F2F1), 1)
-}
-
-// What stands in an unused place.
-fn unused() -> Binding {
-    Binding::group(0, 0, GroupAddress(0))
+// The entry of a letter: A is that of K10's request, B the same to another group, and C the same to endpoint 1 of a device. Any
+// other letter is what stands in an unused place.
+fn entry(letter: u8) -> Binding {
+    match letter {
+        b'A' => Binding::group(1, 0x0402, GroupAddress(0x0003)),
+        b'B' => Binding::group(1, 0x0402, GroupAddress(0x0004)),
+        b'C' => Binding::device(1, 0x0402, IeeeAddress(0xF8F7F6F5F4F3F2F1), 1),
+        _ => Binding::group(0, 0, GroupAddress(0)),
+    }
 }
 
 // The steps of K11, with its two limits, and the cases beside it.
@@ -46,67 +37,47 @@ pub(crate) fn k11() {
 fn five_steps(limit: usize) {
     print::text(b"K11 limit");
     print::decimal(limit);
-    let table = bind(BindingTable::new(limit), entry_a());
-    let table = bind(table, entry_b());
-    let table = unbind(table, entry_a());
-    let table = bind(table, entry_c());
-    let table = unbind(table, entry_b());
-    print_table(table);
+    let table = bind(BindingTable::new(limit), b'A');
+    let table = bind(table, b'B');
+    let table = unbind(table, b'A');
+    let table = bind(table, b'C');
+    print_table(unbind(table, b'B'));
 }
 
 // A bind and an unbind with a limit that is too high, and an unbind and a bind with a count above the limit.
 fn bad_tables() {
     print::text(b"difference 7");
-    let table = bind(BindingTable::new(33), entry_a());
-    print_table(unbind(table, entry_a()));
+    let table = bind(BindingTable::new(33), b'A');
+    print_table(unbind(table, b'A'));
     print::text(b"difference 8");
-    let table = unbind(two_held(1), entry_a());
-    print_table(bind(table, entry_c()));
-}
-
-// A table of this limit that holds A and B.
-fn two_held(limit: usize) -> BindingTable {
-    table_of(limit, 2, entry_a(), entry_b(), unused())
+    let table = unbind(table_of(1, 2, b'A', b'B', b'-'), b'A');
+    print_table(bind(table, b'C'));
 }
 
 // A bind of an entry that a full table holds; an unbind of one that is held twice; and a bind and an unbind where something stands
 // behind the places in use.
 fn more_steps() {
-    print_bind(b"bind A again in a full table", two_held(2), entry_a());
-    let twice = table_of(3, 3, entry_a(), entry_b(), entry_a());
-    print_unbind_a(b"unbind A of A, B, A", twice);
+    print::text(b"bind A again in a full table");
+    print_table(bind(table_of(2, 2, b'A', b'B', b'-'), b'A'));
+    print::text(b"unbind A of A, B, A");
+    print_table(unbind(table_of(3, 3, b'A', b'B', b'A'), b'A'));
     before_unused();
 }
 
 // A bind and an unbind where C stands behind the places in use.
 fn before_unused() {
-    let table = table_of(3, 1, entry_a(), unused(), entry_c());
-    print_bind(b"bind B before an unused C", table, entry_b());
-    let table = table_of(3, 2, entry_a(), entry_b(), entry_c());
-    print_unbind_a(b"unbind A before an unused C", table);
+    print::text(b"bind B before an unused C");
+    print_table(bind(table_of(3, 1, b'A', b'-', b'C'), b'B'));
+    print::text(b"unbind A before an unused C");
+    print_table(unbind(table_of(3, 2, b'A', b'B', b'C'), b'A'));
 }
 
-// Binds, and prints the table.
-fn print_bind(name: &[u8], table: BindingTable, binding: Binding) {
-    print::text(name);
-    print_table(bind(table, binding));
-}
-
-// Unbinds A, and prints the table.
-fn print_unbind_a(name: &[u8], table: BindingTable) {
-    print::text(name);
-    print_table(unbind(table, entry_a()));
-}
-
-// A table made by hand: its limit, its count, and what stands in its first three places.
-fn table_of(
-    limit: usize,
-    count: usize,
-    first: Binding,
-    second: Binding,
-    third: Binding,
-) -> BindingTable {
+// A table made by hand: its limit, its count, and the letters of what stands in its first three places.
+fn table_of(limit: usize, count: usize, first: u8, second: u8, third: u8) -> BindingTable {
     let mut table = BindingTable::new(limit);
+    let first = entry(first);
+    let second = entry(second);
+    let third = entry(third);
     table.entries[0] = first;
     table.entries[1] = second;
     table.entries[2] = third;
@@ -114,14 +85,14 @@ fn table_of(
     table
 }
 
-// Binds, and prints the status.
-fn bind(table: BindingTable, binding: Binding) -> BindingTable {
-    told(create_binding_link(table, binding))
+// Binds the entry of a letter, and prints the status.
+fn bind(table: BindingTable, letter: u8) -> BindingTable {
+    told(create_binding_link(table, entry(letter)))
 }
 
-// Unbinds, and prints the status.
-fn unbind(table: BindingTable, binding: Binding) -> BindingTable {
-    told(remove_binding_link(table, binding))
+// Unbinds the entry of a letter, and prints the status.
+fn unbind(table: BindingTable, letter: u8) -> BindingTable {
+    told(remove_binding_link(table, entry(letter)))
 }
 
 // The table after a step, whose status is printed.
@@ -168,10 +139,15 @@ fn print_place(place: usize, entry: Binding) {
 // Whether A routes traffic of its own endpoint and cluster, of another endpoint, and of another cluster.
 fn routes() {
     print::text(b"A matches");
-    print_flag(entry_a().matches(1, 0x0402));
-    print_flag(entry_a().matches(2, 0x0402));
-    print_flag(entry_a().matches(1, 0x0403));
+    print_route(1, 0x0402);
+    print_route(2, 0x0402);
+    print_route(1, 0x0403);
     print::end_line();
+}
+
+// Whether A routes traffic of an endpoint and a cluster.
+fn print_route(src_endpoint: u8, cluster_id: u16) {
+    print_flag(entry(b'A').matches(src_endpoint, cluster_id));
 }
 
 // Whether A equals itself, and each entry that differs from it in one field, in the address once at each end.
@@ -205,7 +181,7 @@ fn print_equal(
     dst_ieee: u64,
     dst_endpoint: u8,
 ) {
-    let entry = Binding {
+    let other = Binding {
         dst_ieee: IeeeAddress(dst_ieee),
         cluster_id,
         src_endpoint,
@@ -213,7 +189,7 @@ fn print_equal(
         dst_group: GroupAddress(dst_group),
         dst_endpoint,
     };
-    print_flag(entry_a().eq(entry));
+    print_flag(entry(b'A').eq(other));
 }
 
 // A flag, 0 or 1.

@@ -97,6 +97,11 @@ pub(crate) fn k3() {
 pub(crate) fn k4() {
     print_our_power(b"K4 written", 3);
     print_our_power(b"K4 1 byte", 1);
+    pairs();
+}
+
+// The three pairs that are read.
+fn pairs() {
     print_power(b"K4 42 84", &[0x42, 0x84]);
     print_power(b"K4 22 84", &[0x22, 0x84]);
     print_power(b"K4 32 83", &[0x32, 0x83]);

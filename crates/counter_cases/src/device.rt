@@ -96,13 +96,20 @@ fn print_our_simple(name: &[u8], number: u8, room: usize)
 // The simple replies of 27 inputs and an output, and of an input more: for this there is room, there is not, and its pool is too
 // short as well.
 pub(crate) fn k6() {
-    print_zeros(b"K6 reply of 28", 27, 70);
-    print_zeros(b"K6 reply of 28", 27, 69);
-    print_zeros(b"K6 reply of 28", 27, 68);
+    print_28(70);
+    print_28(69);
+    print_28(68);
     print_zeros(b"K6 reply of 29", 28, 71);
     print_zeros(b"K6 reply of 29", 28, 4);
     let device = device_of_inputs(28);
     print_simple(b"K6 short pool", device, 1, &[0; 27], &OUTPUTS, 4);
+}
+
+// A line for the simple reply of 28 clusters.
+fn print_28(room: usize)
+    requires { ⌜ room ≤ 71 ⌝ }
+{
+    print_zeros(b"K6 reply of 28", 27, room);
 }
 
 // A line for the simple reply of so many inputs, of a pool of 28 zeros, and an output.

@@ -104,6 +104,11 @@ pub(crate) fn sizes() {
     print_records(b"number 1 twice", 3, 20, 6);
     print_records(b"32 records", 32, 20, 6);
     print_records(b"difference 5", 33, 4, 8);
+    long_pools();
+}
+
+// Pools of 512 clusters, and of 513.
+fn long_pools() {
     print_pools(b"512 clusters", &[0; 512], &[0; 512], 20, 6);
     print_pools(b"513 inputs", &[0; 513], &device::OUTPUTS, 4, 8);
     print_pools(b"513 outputs", &device::INPUTS, &[0; 513], 4, 8);
@@ -131,6 +136,11 @@ pub(crate) fn past_pools() {
     print_pools(b"short outputs", &device::INPUTS, &[], 4, 8);
     print_parts(b"unused record", 0, 2, 0, 1, 20, 6);
     print_parts(b"far inputs", 0xFFFF, 1, 0, 1, 4, 8);
+    without_clusters();
+}
+
+// Records without clusters that start at the end of their pools, and past it.
+fn without_clusters() {
     print_parts(b"start at the end", 4, 0, 1, 0, 20, 6);
     print_parts(b"difference 6, inputs", 5, 0, 1, 0, 4, 8);
     print_parts(b"difference 6, outputs", 4, 0, 2, 0, 4, 8);

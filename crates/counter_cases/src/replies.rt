@@ -30,10 +30,8 @@ enum Frame {
     Power,
     Match,
     EmptyMatch,
-    Address,
-    ExtendedAddress,
-    Bind,
-    FullBind,
+    Address(u8, bool),
+    Bind(u8, BindStatus),
     Leave,
     Error(ErrorKind, DiscoveryError),
 }
@@ -54,8 +52,8 @@ pub(crate) fn k1() {
 
 // K10's bind reply, and one with another status.
 pub(crate) fn k10() {
-    three_rooms(b"K10 reply", Frame::Bind, 2);
-    print_frame(b"bind reply", Frame::FullBind, 2);
+    three_rooms(b"K10 reply", Frame::Bind(0x0A, BindStatus::Success), 2);
+    print_frame(b"bind reply", Frame::Bind(0x0B, BindStatus::TableFull), 2);
 }
 
 // The others, the errors each with both reasons.
@@ -64,11 +62,16 @@ pub(crate) fn others() {
     three_rooms(b"power reply", Frame::Power, 6);
     three_rooms(b"match reply", Frame::Match, 7);
     print_frame(b"empty match reply", Frame::EmptyMatch, 5);
-    three_rooms(b"address reply", Frame::Address, 12);
-    three_rooms(b"extended address reply", Frame::ExtendedAddress, 14);
+    addresses();
     three_rooms(b"leave reply", Frame::Leave, 2);
     errors(DiscoveryError::InvalidRequestType);
     errors(DiscoveryError::DeviceNotFound);
+}
+
+// The address replies, the second an extended one.
+fn addresses() {
+    three_rooms(b"address reply", Frame::Address(0x19, false), 12);
+    three_rooms(b"extended address reply", Frame::Address(0x1A, true), 14);
 }
 
 // The replies that report an error.
@@ -114,10 +117,8 @@ fn write(frame: Frame, out: &mut [u8]) -> Written {
         Frame::Power => power_desc_rsp(descriptors::our_power(), 0x16, short, out),
         Frame::Match => match_desc_rsp(0x17, short, &[0x03, 0xF0], out),
         Frame::EmptyMatch => match_desc_rsp(0x18, short, &[], out),
-        Frame::Address => addr_rsp(0x19, ieee, short, false, out),
-        Frame::ExtendedAddress => addr_rsp(0x1A, ieee, short, true, out),
-        Frame::Bind => bind_rsp(0x0A, BindStatus::Success, out),
-        Frame::FullBind => bind_rsp(0x0B, BindStatus::TableFull, out),
+        Frame::Address(seq, extended) => addr_rsp(seq, ieee, short, extended, out),
+        Frame::Bind(seq, status) => bind_rsp(seq, status, out),
         Frame::Leave => mgmt_leave_rsp(0x1B, 0x8B, out),
         Frame::Error(kind, error) => write_error(kind, error, out),
     }
@@ -143,8 +144,7 @@ pub(crate) fn many_matches() {
     print_many(b"255 matches", 255, 261);
 }
 
-// A line for the match reply of so many endpoints. Of the buffer are printed the byte of the count, that of the first endpoint, and
-// the last two.
+// A line for the match reply of so many endpoints.
 fn print_many(name: &[u8], count: usize, room: usize)
     requires { ⌜ (count ≤ 256) × ((2 ≤ room) × (room ≤ 261)) ⌝ }
 {
@@ -155,6 +155,13 @@ fn print_many(name: &[u8], count: usize, room: usize)
     let mut out = [0xEEu8; 261];
     let short = ShortAddress(0x1234);
     let written = match_desc_rsp(0x21, short, &matches[0..count], &mut out[0..room]);
+    print_ends(written, &out, room);
+}
+
+// Of a buffer of so many bytes, the byte of the count, that of the first endpoint, and the last two.
+fn print_ends(written: Written, out: &[u8; 261], room: usize)
+    requires { ⌜ (2 ≤ room) × (room ≤ 261) ⌝ }
+{
     print::written(written, &[out[4], out[5], out[room - 2], out[room - 1]]);
 }
 
