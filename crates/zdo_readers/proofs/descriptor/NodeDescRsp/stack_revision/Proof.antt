@@ -4,13 +4,11 @@ use Rattle.zdo_readers.specs.Readers.{stackRevisionOf}
 use Rattle.zdo_readers.proofs.descriptor.NodeDescRsp.stack_revision.Statement.{statement}
 use Rattle.zdo_readers.proofs.descriptor.NodeDescRsp.stack_revision.Tie as tie
 
-ruleset laws = (needs)
-
 pub stack-revision-spec : {M : Type 1} → statement M
 unfolding stackRevisionOf
 stack-revision-spec =
-    tie.close (tie.spec (λ c. search laws)  -- enum-known-server-mask
-    (λ c. search laws)  -- cast-t6
-    (λ c. search laws)  -- enum-told
-    (λ c. cc)  -- returns
-    (λ c. cc))  -- returns-2
+    tie.close (tie.spec (λ c. search needs)  -- enum-known-server-mask
+    (λ c. search needs)  -- cast-t6
+    (λ c. search needs)  -- enum-told
+    (λ c. rw (c .before .server-mask .given .1))  -- returns
+    (λ c. rw (c .enum-told .given .1)))  -- returns-2
