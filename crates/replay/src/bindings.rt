@@ -1,48 +1,26 @@
 // The questions about the entries of the binding table (oracle/README.md, "Binding table"), and the entries that a word says.
 use crate::links;
 use crate::out;
+use crate::out::Text;
 use crate::words;
-use crate::words::asks;
 use crate::words::u8_at;
 use crate::words::u16_at;
 use aps_binding::binding::Binding;
 use zigbee_types::GroupAddress;
 use zigbee_types::IeeeAddress;
 
-// What a line asks about entries.
-enum Question {
-    Group,
-    Device,
-    Matches,
-    Eq,
-    Other,
-}
-
-// Which question about entries a line is.
-fn asked(line: &[u8]) -> Question {
-    if asks(line, b"Binding::group 1 2 2") {
-        return Question::Group;
-    }
-    if asks(line, b"Binding::device 1 2 8 1") {
-        return Question::Device;
-    }
-    if asks(line, b"Binding::matches B 1 2") {
-        return Question::Matches;
-    }
-    if asks(line, b"Binding::eq B B") {
-        return Question::Eq;
-    }
-    Question::Other
-}
-
-// Puts the answer to a question about entries, or about a sequence of binds and unbinds. The place stays where the line is none.
-pub(crate) fn answer(line: &[u8], out: &mut [u8], at: usize) -> usize {
-    match asked(line) {
-        Question::Group => put_entry(group(line), out, at),
-        Question::Device => put_entry(device(line), out, at),
-        Question::Matches => out::flag(out, at, matches(line)),
-        Question::Eq => out::flag(out, at, eq(line)),
-        Question::Other => links::answer(line, out, at),
+// Puts the answer to a question about entries, or hands the line on.
+pub(crate) fn answer(line: &[u8], text: Text) -> Text {
+    let questions = b"Binding::group 1 2 2;\
+        Binding::device 1 2 8 1;\
+        Binding::matches B 1 2;\
+        Binding::eq B B";
+    match words::which(line, questions) {
+        0 => put_entry(group(line), text),
+        1 => put_entry(device(line), text),
+        2 => out::flag(text, matches(line)),
+        3 => out::flag(text, eq(line)),
+        _ => links::answer(line, text),
     }
 }
 
@@ -89,37 +67,37 @@ pub(crate) fn entry_of(word: &[u8]) -> Binding {
 }
 
 // Puts an entry. One that is not as `group` or `device` build them, in its mode or in a field that is zero there, is `?`.
-pub(crate) fn put_entry(entry: Binding, out: &mut [u8], at: usize) -> usize {
+pub(crate) fn put_entry(entry: Binding, text: Text) -> Text {
     let mode = entry.dst_addr_mode;
     match mode {
-        Binding::GROUP => put_group(entry, out, at),
-        Binding::DEVICE => put_device(entry, out, at),
-        _ => out::byte(out, at, b'?'),
+        Binding::GROUP => put_group(entry, text),
+        Binding::DEVICE => put_device(entry, text),
+        _ => out::byte(text, b'?'),
     }
 }
 
 // Puts an entry to a group, or `?` where it has a device too.
-fn put_group(entry: Binding, out: &mut [u8], at: usize) -> usize {
+fn put_group(entry: Binding, text: Text) -> Text {
     if entry.dst_ieee.0 != 0 || entry.dst_endpoint != 0 {
-        return out::byte(out, at, b'?');
+        return out::byte(text, b'?');
     }
-    let at = put_source(entry, out, at);
-    out::hex_u16(out, at, entry.dst_group.0)
+    let text = put_source(entry, text);
+    out::hex_u16(text, entry.dst_group.0)
 }
 
 // Puts an entry to a device, or `?` where it has a group too.
-fn put_device(entry: Binding, out: &mut [u8], at: usize) -> usize {
+fn put_device(entry: Binding, text: Text) -> Text {
     if entry.dst_group.0 != 0 {
-        return out::byte(out, at, b'?');
+        return out::byte(text, b'?');
     }
-    let at = put_source(entry, out, at);
-    let at = out::hex_u64(out, at, entry.dst_ieee.0);
-    out::hex_u8(out, at, entry.dst_endpoint)
+    let text = put_source(entry, text);
+    let text = out::hex_u64(text, entry.dst_ieee.0);
+    out::hex_u8(text, entry.dst_endpoint)
 }
 
 // Puts the fields that stand before an entry's destination.
-fn put_source(entry: Binding, out: &mut [u8], at: usize) -> usize {
-    let at = out::hex_u8(out, at, entry.dst_addr_mode);
-    let at = out::hex_u8(out, at, entry.src_endpoint);
-    out::hex_u16(out, at, entry.cluster_id)
+fn put_source(entry: Binding, text: Text) -> Text {
+    let text = out::hex_u8(text, entry.dst_addr_mode);
+    let text = out::hex_u8(text, entry.src_endpoint);
+    out::hex_u16(text, entry.cluster_id)
 }

@@ -3,6 +3,7 @@
 // (docs/DIFFERENCES.md, no. 7).
 use crate::bindings;
 use crate::out;
+use crate::out::Text;
 use crate::words;
 use aps_binding_table::binding::BindingTable;
 use aps_binding_table::binding::LinkStatus;
@@ -12,18 +13,18 @@ use aps_binding_table::binding::remove_binding_link;
 use zdo_replies::descriptor::BindStatus;
 ghost use Prim.Native.Nat.{_≤_};
 
-// Puts the answer to the question about a sequence. The place stays where the line is none.
-pub(crate) fn answer(line: &[u8], out: &mut [u8], at: usize) -> usize {
+// Puts the answer to the question about a sequence. It stays as it is where the line is none.
+pub(crate) fn answer(line: &[u8], text: Text) -> Text {
     let limit = words::decimal_in(line, 1);
     if !has_limit(line) || limit > 32 {
-        return at;
+        return text;
     }
     let table = first_table(line, limit);
     let passed = 1 + table.count;
     if !has_steps(line, passed) {
-        return at;
+        return text;
     }
-    run(line, passed, table, out, at)
+    run(line, passed, table, text)
 }
 
 // Whether a line has the question's name, and a number in decimal behind it.
@@ -88,23 +89,23 @@ fn behind(word: &[u8]) -> &[u8] {
 }
 
 // Takes the steps behind the first so many words, and puts the status of each, or `-` where there is none, and the table then.
-fn run(line: &[u8], passed: usize, table: BindingTable, out: &mut [u8], at: usize) -> usize {
+fn run(line: &[u8], passed: usize, table: BindingTable, text: Text) -> Text {
     let last = words::arguments(line);
     if last <= passed {
-        let at = out::byte(out, at, b'-');
-        return put_table(table, out, at);
+        let text = out::byte(text, b'-');
+        return put_table(table, text);
     }
     let mut table = table;
-    let mut at = at;
+    let mut text = text;
     let mut i = passed;
     while i < last {
         i += 1;
         let linked = step(table, words::word_of(line, i));
         let status = linked.status;
         table = linked.table;
-        at = put_status(status, out, at);
+        text = put_status(status, text);
     }
-    put_table(table, out, at)
+    put_table(table, text)
 }
 
 // Takes the step that a word says.
@@ -117,27 +118,27 @@ fn step(table: BindingTable, word: &[u8]) -> Linked {
 }
 
 // Puts a status. The oracle never answers `R`: a refusal, which no table of this question earns, would show.
-fn put_status(status: LinkStatus, out: &mut [u8], at: usize) -> usize {
+fn put_status(status: LinkStatus, text: Text) -> Text {
     match status {
-        LinkStatus::Success => out::hex_u8(out, at, BindStatus::Success.code()),
-        LinkStatus::InvalidBinding => out::hex_u8(out, at, BindStatus::NoEntry.code()),
-        LinkStatus::TableFull => out::hex_u8(out, at, BindStatus::TableFull.code()),
-        LinkStatus::Refused(_) => out::byte(out, at, b'R'),
+        LinkStatus::Success => out::hex_u8(text, BindStatus::Success.code()),
+        LinkStatus::InvalidBinding => out::hex_u8(text, BindStatus::NoEntry.code()),
+        LinkStatus::TableFull => out::hex_u8(text, BindStatus::TableFull.code()),
+        LinkStatus::Refused(_) => out::byte(text, b'R'),
     }
 }
 
 // Puts a table, after a space: how many entries it holds, and each of them.
-fn put_table(table: BindingTable, out: &mut [u8], at: usize) -> usize {
-    let mut at = out::byte(out, at, b' ');
-    at = out::decimal(out, at, table.count);
+fn put_table(table: BindingTable, text: Text) -> Text {
+    let mut text = out::byte(text, b' ');
+    text = out::decimal(text, table.count);
     let mut i: usize = 0;
     while i < 32 {
         if table.count <= i {
-            return at;
+            return text;
         }
-        at = out::byte(out, at, b' ');
-        at = bindings::put_entry(table.entries[i], out, at);
+        text = out::byte(text, b' ');
+        text = bindings::put_entry(table.entries[i], text);
         i += 1;
     }
-    at
+    text
 }

@@ -1,8 +1,9 @@
 // The questions about the node descriptor as a whole (oracle/README.md, "Descriptors").
+use crate::flags;
 use crate::out;
+use crate::out::Text;
 use crate::values;
 use crate::words;
-use crate::words::asks;
 use crate::words::u8_at;
 use crate::words::u16_at;
 use node_descriptor::LogicalType;
@@ -10,55 +11,31 @@ use node_descriptor::NodeDescriptor;
 use node_descriptor::NodeDescriptorRead;
 use node_descriptor::descriptor::NodeDescriptorConfig;
 
-// What a line asks about the node descriptor.
-enum Question {
-    Default,
-    Write,
-    TryRead,
-    LogicalType,
-    Accessors,
-    Other,
-}
-
-// Which question about the node descriptor a line is.
-fn asked(line: &[u8]) -> Question {
-    if asks(line, b"NodeDescriptorConfig::default") {
-        return Question::Default;
-    }
-    if asks(line, b"NodeDescriptorConfig::write N b") {
-        return Question::Write;
-    }
-    if asks(line, b"NodeDescriptor::try_read b") {
-        return Question::TryRead;
-    }
-    if asks(line, b"NodeDescriptor::logical_type b") {
-        return Question::LogicalType;
-    }
-    if asks(line, b"NodeDescriptor::accessors b") {
-        return Question::Accessors;
-    }
-    Question::Other
-}
-
-// Puts the answer to a question about the node descriptor. The place stays where the line is none.
-pub(crate) fn answer(line: &[u8], space: &mut [u8], out: &mut [u8], at: usize) -> usize {
-    match asked(line) {
-        Question::Default => put_node(NodeDescriptorConfig::default(), out, at),
-        Question::Write => write(line, space, out, at),
-        Question::TryRead => try_read(read(line, space), out, at),
-        Question::LogicalType => logical_type(read(line, space), out, at),
-        Question::Accessors => accessors(read(line, space), out, at),
-        Question::Other => at,
+// Puts the answer to a question about the node descriptor, or hands the line on.
+pub(crate) fn answer(line: &[u8], text: Text) -> Text {
+    let questions = b"NodeDescriptorConfig::default;\
+        NodeDescriptorConfig::write N b;\
+        NodeDescriptor::try_read b;\
+        NodeDescriptor::logical_type b;\
+        NodeDescriptor::accessors b";
+    match words::which(line, questions) {
+        0 => put_node(NodeDescriptorConfig::default(), text),
+        1 => write(line, text),
+        2 => try_read(read(line), text),
+        3 => logical_type(read(line), text),
+        4 => accessors(read(line), text),
+        _ => flags::answer(line, text),
     }
 }
 
 // Puts the answer to a write: behind its name stand NODE BUFFER.
-fn write(line: &[u8], space: &mut [u8], out: &mut [u8], at: usize) -> usize {
+fn write(line: &[u8], text: Text) -> Text {
     let node = node_of(words::word_of(line, 1));
-    let count = words::bytes_in(line, 2, space);
+    let mut space = [0u8; words::BYTES];
+    let count = words::bytes_in(line, 2, &mut space);
     let buffer = &mut space[0..count];
     let answer = node.write(buffer);
-    out::written(out, at, answer, words::word_of(line, 2), buffer)
+    out::written(text, answer, words::word_of(line, 2), buffer)
 }
 
 // The configuration that a word says.
@@ -79,34 +56,33 @@ pub(crate) fn node_of(word: &[u8]) -> NodeDescriptorConfig {
 }
 
 // What is read from the BYTES that stand behind the name of a question.
-fn read(line: &[u8], space: &mut [u8]) -> NodeDescriptorRead {
-    let count = words::bytes_in(line, 1, space);
+fn read(line: &[u8]) -> NodeDescriptorRead {
+    let mut space = [0u8; words::BYTES];
+    let count = words::bytes_in(line, 1, &mut space);
     NodeDescriptor::try_read(&space[0..count])
 }
 
 // Puts how many bytes a descriptor was read from, always thirteen, or `R`.
-fn try_read(found: NodeDescriptorRead, out: &mut [u8], at: usize) -> usize {
+fn try_read(found: NodeDescriptorRead, text: Text) -> Text {
     match found {
-        NodeDescriptorRead::Descriptor(_) => out::decimal(out, at, 13),
-        NodeDescriptorRead::Refused(_) => out::byte(out, at, b'R'),
+        NodeDescriptorRead::Descriptor(_) => out::decimal(text, 13),
+        NodeDescriptorRead::Refused(_) => out::byte(text, b'R'),
     }
 }
 
 // Puts the logical type of a descriptor. Bytes that are none are no question.
-fn logical_type(found: NodeDescriptorRead, out: &mut [u8], at: usize) -> usize {
+fn logical_type(found: NodeDescriptorRead, text: Text) -> Text {
     match found {
-        NodeDescriptorRead::Descriptor(descriptor) => {
-            put_type(descriptor.logical_type(), out, at)
-        }
-        NodeDescriptorRead::Refused(_) => at,
+        NodeDescriptorRead::Descriptor(descriptor) => { put_type(descriptor.logical_type(), text) }
+        NodeDescriptorRead::Refused(_) => text,
     }
 }
 
 // Puts what the other accessors say of a descriptor. Bytes that are none are no question.
-fn accessors(found: NodeDescriptorRead, out: &mut [u8], at: usize) -> usize {
+fn accessors(found: NodeDescriptorRead, text: Text) -> Text {
     match found {
-        NodeDescriptorRead::Descriptor(descriptor) => put_fields(fields(descriptor), out, at),
-        NodeDescriptorRead::Refused(_) => at,
+        NodeDescriptorRead::Descriptor(descriptor) => put_fields(fields(descriptor), text),
+        NodeDescriptorRead::Refused(_) => text,
     }
 }
 
@@ -132,37 +108,37 @@ fn fields(descriptor: NodeDescriptor) -> NodeDescriptorConfig {
 }
 
 // Puts a node.
-fn put_node(node: NodeDescriptorConfig, out: &mut [u8], at: usize) -> usize {
+fn put_node(node: NodeDescriptorConfig, text: Text) -> Text {
     let logical_type = node.logical_type;
-    let at = put_type(logical_type, out, at);
-    put_fields(node, out, at)
+    let text = put_type(logical_type, text);
+    put_fields(node, text)
 }
 
 // Puts a logical type.
-fn put_type(logical_type: LogicalType, out: &mut [u8], at: usize) -> usize {
-    out::hex_u16(out, at, values::of_logical_type(logical_type))
+fn put_type(logical_type: LogicalType, text: Text) -> Text {
+    out::hex_u16(text, values::of_logical_type(logical_type))
 }
 
 // Puts the fields of a node that stand behind its type.
-fn put_fields(node: NodeDescriptorConfig, out: &mut [u8], at: usize) -> usize {
-    let at = put_abilities(node, out, at);
-    put_sizes(node, out, at)
+fn put_fields(node: NodeDescriptorConfig, text: Text) -> Text {
+    let text = put_abilities(node, text);
+    put_sizes(node, text)
 }
 
 // Puts the fields of a node from the complex descriptor's flag to the manufacturer.
-fn put_abilities(node: NodeDescriptorConfig, out: &mut [u8], at: usize) -> usize {
-    let at = out::hex_u8(out, at, node.complex_descriptor_available as u8);
-    let at = out::hex_u8(out, at, node.user_descriptor_available as u8);
-    let at = out::hex_u8(out, at, node.frequency_band);
-    let at = out::hex_u8(out, at, node.mac_capability_flags);
-    out::hex_u16(out, at, node.manufacturer_code)
+fn put_abilities(node: NodeDescriptorConfig, text: Text) -> Text {
+    let text = out::hex_u8(text, node.complex_descriptor_available as u8);
+    let text = out::hex_u8(text, node.user_descriptor_available as u8);
+    let text = out::hex_u8(text, node.frequency_band);
+    let text = out::hex_u8(text, node.mac_capability_flags);
+    out::hex_u16(text, node.manufacturer_code)
 }
 
 // Puts the fields of a node from the buffer's size on.
-fn put_sizes(node: NodeDescriptorConfig, out: &mut [u8], at: usize) -> usize {
-    let at = out::hex_u8(out, at, node.maximum_buffer_size);
-    let at = out::hex_u16(out, at, node.maximum_incoming_transfer_size);
-    let at = out::hex_u16(out, at, node.server_mask);
-    let at = out::hex_u16(out, at, node.maximum_outgoing_transfer_size);
-    out::hex_u8(out, at, node.descriptor_capability_field)
+fn put_sizes(node: NodeDescriptorConfig, text: Text) -> Text {
+    let text = out::hex_u8(text, node.maximum_buffer_size);
+    let text = out::hex_u16(text, node.maximum_incoming_transfer_size);
+    let text = out::hex_u16(text, node.server_mask);
+    let text = out::hex_u16(text, node.maximum_outgoing_transfer_size);
+    out::hex_u8(text, node.descriptor_capability_field)
 }

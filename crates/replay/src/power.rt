@@ -1,58 +1,37 @@
 // The questions about the node power descriptor as a whole (oracle/README.md, "Descriptors").
 use crate::bits;
 use crate::out;
+use crate::out::Text;
 use crate::values;
 use crate::words;
-use crate::words::asks;
 use crate::words::u16_at;
 use node_power_descriptor::NodePowerDescriptor;
 use node_power_descriptor::NodePowerDescriptorRead;
 use node_power_descriptor::descriptor::PowerDescriptorConfig;
 
-// What a line asks about the node power descriptor.
-enum Question {
-    Write,
-    TryRead,
-    Accessors,
-    Supports,
-    Other,
-}
-
-// Which question about the node power descriptor a line is.
-fn asked(line: &[u8]) -> Question {
-    if asks(line, b"PowerDescriptorConfig::write P S b") {
-        return Question::Write;
-    }
-    if asks(line, b"NodePowerDescriptor::try_read b") {
-        return Question::TryRead;
-    }
-    if asks(line, b"NodePowerDescriptor::accessors b") {
-        return Question::Accessors;
-    }
-    if asks(line, b"NodePowerDescriptor::supports b s") {
-        return Question::Supports;
-    }
-    Question::Other
-}
-
-// Puts the answer to a question about the node power descriptor. The place stays where the line is none.
-pub(crate) fn answer(line: &[u8], space: &mut [u8], out: &mut [u8], at: usize) -> usize {
-    match asked(line) {
-        Question::Write => write(line, space, out, at),
-        Question::TryRead => try_read(line, space, out, at),
-        Question::Accessors => accessors(line, space, out, at),
-        Question::Supports => supports(line, space, out, at),
-        Question::Other => at,
+// Puts the answer to a question about the node power descriptor, or hands the line on.
+pub(crate) fn answer(line: &[u8], text: Text) -> Text {
+    let questions = b"PowerDescriptorConfig::write P S b;\
+        NodePowerDescriptor::try_read b;\
+        NodePowerDescriptor::accessors b;\
+        NodePowerDescriptor::supports b s";
+    match words::which(line, questions) {
+        0 => write(line, text),
+        1 => try_read(line, text),
+        2 => accessors(line, text),
+        3 => supports(line, text),
+        _ => bits::answer(line, text),
     }
 }
 
 // Puts the answer to a write: behind its name stand POWER NAMEDS BUFFER.
-fn write(line: &[u8], space: &mut [u8], out: &mut [u8], at: usize) -> usize {
-    let power = power_of(words::word_of(line, 1), bits::bitmap(line, 2, space));
-    let count = words::bytes_in(line, 3, space);
+fn write(line: &[u8], text: Text) -> Text {
+    let power = power_of(words::word_of(line, 1), bits::bitmap(line, 2));
+    let mut space = [0u8; words::BYTES];
+    let count = words::bytes_in(line, 3, &mut space);
     let buffer = &mut space[0..count];
     let answer = power.write(buffer);
-    out::written(out, at, answer, words::word_of(line, 3), buffer)
+    out::written(text, answer, words::word_of(line, 3), buffer)
 }
 
 // The configuration that a word says, with the bits of the available sources.
@@ -66,50 +45,46 @@ pub(crate) fn power_of(word: &[u8], available_power_sources: u8) -> PowerDescrip
 }
 
 // Puts the answer to a read: behind its name stand BYTES. A descriptor is always read from two.
-fn try_read(line: &[u8], space: &mut [u8], out: &mut [u8], at: usize) -> usize {
-    let count = words::bytes_in(line, 1, space);
+fn try_read(line: &[u8], text: Text) -> Text {
+    let mut space = [0u8; words::BYTES];
+    let count = words::bytes_in(line, 1, &mut space);
     match NodePowerDescriptor::try_read(&space[0..count]) {
-        NodePowerDescriptorRead::Descriptor(_) => out::decimal(out, at, 2),
-        NodePowerDescriptorRead::Refused(_) => out::byte(out, at, b'R'),
+        NodePowerDescriptorRead::Descriptor(_) => out::decimal(text, 2),
+        NodePowerDescriptorRead::Refused(_) => out::byte(text, b'R'),
     }
 }
 
 // Puts the power that a descriptor says: behind the question's name stand BYTES. Fewer than two are no question.
-fn accessors(line: &[u8], space: &mut [u8], out: &mut [u8], at: usize) -> usize {
+fn accessors(line: &[u8], text: Text) -> Text {
     if words::word_of(line, 1).len() < 4 {
-        return at;
+        return text;
     }
-    let descriptor = descriptor_of(line, space);
-    let at = out::hex_u16(out, at, values::of_mode(descriptor.current_power_mode()));
-    let at = out::hex_u16(
-        out,
-        at,
-        values::of_source(descriptor.current_power_source()),
-    );
+    let descriptor = descriptor_of(line);
+    let text = out::hex_u16(text, values::of_mode(descriptor.current_power_mode()));
+    let text = out::hex_u16(text, values::of_source(descriptor.current_power_source()));
     out::hex_u16(
-        out,
-        at,
+        text,
         values::of_level(descriptor.current_power_source_level()),
     )
 }
 
 // Puts whether a descriptor has a source available: behind the question's name stand BYTES NAMED. Fewer than two bytes are no
 // question.
-fn supports(line: &[u8], space: &mut [u8], out: &mut [u8], at: usize) -> usize {
+fn supports(line: &[u8], text: Text) -> Text {
     if words::word_of(line, 1).len() < 4 {
-        return at;
+        return text;
     }
-    let descriptor = descriptor_of(line, space);
+    let descriptor = descriptor_of(line);
     out::flag(
-        out,
-        at,
+        text,
         descriptor.supports(values::source(words::u16_in(line, 2))),
     )
 }
 
 // The descriptor that is read from the BYTES behind the name of a question, or made of the first two where they are refused.
-fn descriptor_of(line: &[u8], space: &mut [u8]) -> NodePowerDescriptor {
-    let count = words::bytes_in(line, 1, space);
+fn descriptor_of(line: &[u8]) -> NodePowerDescriptor {
+    let mut space = [0u8; words::BYTES];
+    let count = words::bytes_in(line, 1, &mut space);
     match NodePowerDescriptor::try_read(&space[0..count]) {
         NodePowerDescriptorRead::Descriptor(descriptor) => descriptor,
         NodePowerDescriptorRead::Refused(_) => made_of(words::word_of(line, 1)),

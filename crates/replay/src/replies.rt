@@ -1,10 +1,11 @@
 // The questions about replies, and about the statuses in them (oracle/README.md, "Replies").
+use crate::bindings;
 use crate::bits;
 use crate::node;
 use crate::out;
+use crate::out::Text;
 use crate::power;
 use crate::words;
-use crate::words::asks;
 use zdo_addr_rsp::descriptor::addr_rsp;
 use zdo_addr_rsp::descriptor::addr_rsp_error;
 use zdo_desc_rsp::descriptor::active_ep_rsp_error;
@@ -44,89 +45,67 @@ enum ErrorReply {
     MatchDesc,
 }
 
-// What a line asks about replies: one that is written, or the status of a reason.
-enum Question {
-    Write(Reply),
-    DiscoveryCode,
-    BindCode,
-    LeaveStatus,
-    Other,
+// Puts the answer to a question about replies, or hands the line on.
+pub(crate) fn answer(line: &[u8], text: Text) -> Text {
+    let questions = b"node_desc_rsp 1 2 N b;\
+        power_desc_rsp 1 2 P S b;\
+        addr_rsp 1 8 2 f b;\
+        match_desc_rsp 1 2 b b;\
+        bind_rsp 1 R b;\
+        mgmt_leave_rsp 1 1 b";
+    match words::which(line, questions) {
+        0 => write(line, Reply::NodeDesc, text),
+        1 => write(line, Reply::PowerDesc, text),
+        2 => write(line, Reply::Addr, text),
+        3 => write(line, Reply::MatchDesc, text),
+        4 => write(line, Reply::Bind, text),
+        5 => write(line, Reply::MgmtLeave, text),
+        _ => answer_error(line, text),
+    }
 }
 
-// Which question about replies a line is.
-fn asked(line: &[u8]) -> Question {
-    if asks(line, b"node_desc_rsp 1 2 N b") {
-        return Question::Write(Reply::NodeDesc);
+// Puts the answer to a question about a reply that reports an error, or hands the line on.
+fn answer_error(line: &[u8], text: Text) -> Text {
+    let questions = b"addr_rsp_error 1 r 8 2 b;\
+        descriptor_rsp_error 1 r 2 b;\
+        active_ep_rsp_error 1 r 2 b;\
+        simple_desc_rsp_error 1 r 2 b;\
+        match_desc_rsp_error 1 r b";
+    match words::which(line, questions) {
+        0 => write(line, Reply::Error(ErrorReply::Addr), text),
+        1 => write(line, Reply::Error(ErrorReply::Descriptor), text),
+        2 => write(line, Reply::Error(ErrorReply::ActiveEp), text),
+        3 => write(line, Reply::Error(ErrorReply::SimpleDesc), text),
+        4 => write(line, Reply::Error(ErrorReply::MatchDesc), text),
+        _ => answer_status(line, text),
     }
-    if asks(line, b"power_desc_rsp 1 2 P S b") {
-        return Question::Write(Reply::PowerDesc);
-    }
-    if asks(line, b"addr_rsp 1 8 2 f b") {
-        return Question::Write(Reply::Addr);
-    }
-    if asks(line, b"match_desc_rsp 1 2 b b") {
-        return Question::Write(Reply::MatchDesc);
-    }
-    if asks(line, b"bind_rsp 1 R b") {
-        return Question::Write(Reply::Bind);
-    }
-    if asks(line, b"mgmt_leave_rsp 1 1 b") {
-        return Question::Write(Reply::MgmtLeave);
-    }
-    if asks(line, b"DiscoveryError::code r") {
-        return Question::DiscoveryCode;
-    }
-    if asks(line, b"BindStatus::code R") {
-        return Question::BindCode;
-    }
-    if asks(line, b"leave_status R") {
-        return Question::LeaveStatus;
-    }
-    asked_error(line)
 }
 
-// Which question about a reply that reports an error a line is.
-fn asked_error(line: &[u8]) -> Question {
-    if asks(line, b"addr_rsp_error 1 r 8 2 b") {
-        return Question::Write(Reply::Error(ErrorReply::Addr));
-    }
-    if asks(line, b"descriptor_rsp_error 1 r 2 b") {
-        return Question::Write(Reply::Error(ErrorReply::Descriptor));
-    }
-    if asks(line, b"active_ep_rsp_error 1 r 2 b") {
-        return Question::Write(Reply::Error(ErrorReply::ActiveEp));
-    }
-    if asks(line, b"simple_desc_rsp_error 1 r 2 b") {
-        return Question::Write(Reply::Error(ErrorReply::SimpleDesc));
-    }
-    if asks(line, b"match_desc_rsp_error 1 r b") {
-        return Question::Write(Reply::Error(ErrorReply::MatchDesc));
-    }
-    Question::Other
-}
-
-// Puts the answer to a question about replies. The place stays where the line is none.
-pub(crate) fn answer(line: &[u8], space: &mut [u8], out: &mut [u8], at: usize) -> usize {
+// Puts the answer to a question about the status of a reason, or hands the line on.
+fn answer_status(line: &[u8], text: Text) -> Text {
     let reason = words::u8_in(line, 1);
-    match asked(line) {
-        Question::Write(reply) => write(line, reply, space, out, at),
-        Question::DiscoveryCode => out::hex_u8(out, at, discovery_error(reason).code()),
-        Question::BindCode => out::hex_u8(out, at, bind_status(reason).code()),
-        Question::LeaveStatus => out::hex_u8(out, at, leave_status(leave(reason))),
-        Question::Other => at,
+    let questions = b"DiscoveryError::code r;\
+        BindStatus::code R;\
+        leave_status R";
+    match words::which(line, questions) {
+        0 => out::hex_u8(text, discovery_error(reason).code()),
+        1 => out::hex_u8(text, bind_status(reason).code()),
+        2 => out::hex_u8(text, leave_status(leave(reason))),
+        _ => bindings::answer(line, text),
     }
 }
 
 // Puts the answer to a write: behind its name stand NUMBER, arguments of its own, and BUFFER.
-fn write(line: &[u8], reply: Reply, space: &mut [u8], out: &mut [u8], at: usize) -> usize {
+fn write(line: &[u8], reply: Reply, text: Text) -> Text {
     let last = words::arguments(line);
-    let count = words::bytes_in(line, last, space);
+    let mut space = [0u8; words::BYTES];
+    let count = words::bytes_in(line, last, &mut space);
     let buffer = &mut space[0..count];
     let answer = write_reply(line, reply, buffer);
-    out::written(out, at, answer, words::word_of(line, last), buffer)
+    out::written(text, answer, words::word_of(line, last), buffer)
 }
 
-// Writes a reply.
+// Writes a reply: those with SHORT behind the NUMBER here, the others below.
 fn write_reply(line: &[u8], reply: Reply, buffer: &mut [u8]) -> Written {
     let seq = words::u8_in(line, 1);
     let address = ShortAddress(words::u16_in(line, 2));
@@ -135,19 +114,25 @@ fn write_reply(line: &[u8], reply: Reply, buffer: &mut [u8]) -> Written {
             node_desc_rsp(node::node_of(words::word_of(line, 3)), seq, address, buffer)
         }
         Reply::PowerDesc => write_power(line, seq, address, buffer),
-        Reply::Addr => write_addr(line, seq, buffer),
         Reply::MatchDesc => write_match(line, seq, address, buffer),
-        Reply::Bind => bind_rsp(seq, bind_status(words::u8_in(line, 2)), buffer),
-        Reply::MgmtLeave => mgmt_leave_rsp(seq, words::u8_in(line, 2), buffer),
-        Reply::Error(error) => write_error(line, error, seq, buffer),
+        _ => write_other(line, reply, seq, buffer),
     }
 }
 
-// Writes a power reply: behind the question's name stand NUMBER SHORT POWER NAMEDS BUFFER. The sources are at most a quarter of a
-// question's characters.
+// Writes a reply that has no SHORT behind its NUMBER.
+fn write_other(line: &[u8], reply: Reply, seq: u8, buffer: &mut [u8]) -> Written {
+    let number = words::u8_in(line, 2);
+    match reply {
+        Reply::Addr => write_addr(line, seq, buffer),
+        Reply::Bind => bind_rsp(seq, bind_status(number), buffer),
+        Reply::Error(error) => write_error(line, error, seq, buffer),
+        _ => mgmt_leave_rsp(seq, number, buffer),
+    }
+}
+
+// Writes a power reply: behind the question's name stand NUMBER SHORT POWER NAMEDS BUFFER.
 fn write_power(line: &[u8], seq: u8, address: ShortAddress, buffer: &mut [u8]) -> Written {
-    let mut sources = [0u8; 4096];
-    let available = bits::bitmap(line, 4, &mut sources);
+    let available = bits::bitmap(line, 4);
     let power = power::power_of(words::word_of(line, 3), available);
     power_desc_rsp(power, seq, address, buffer)
 }
@@ -163,10 +148,9 @@ fn write_addr(line: &[u8], seq: u8, buffer: &mut [u8]) -> Written {
     )
 }
 
-// Writes a match reply: behind the question's name stand NUMBER SHORT BYTES BUFFER. The endpoints are at most half a question's
-// characters.
+// Writes a match reply: behind the question's name stand NUMBER SHORT BYTES BUFFER.
 fn write_match(line: &[u8], seq: u8, address: ShortAddress, buffer: &mut [u8]) -> Written {
-    let mut endpoints = [0u8; 8192];
+    let mut endpoints = [0u8; words::BYTES];
     let count = words::bytes_in(line, 3, &mut endpoints);
     match_desc_rsp(seq, address, &endpoints[0..count], buffer)
 }
@@ -177,18 +161,18 @@ fn write_error(line: &[u8], error: ErrorReply, seq: u8, buffer: &mut [u8]) -> Wr
     let why = discovery_error(words::u8_in(line, 2));
     let address = ShortAddress(words::u16_in(line, 3));
     match error {
-        ErrorReply::Addr => addr_rsp_error(
-            seq,
-            why,
-            IeeeAddress(words::hex_in(line, 3)),
-            ShortAddress(words::u16_in(line, 4)),
-            buffer,
-        ),
+        ErrorReply::Addr => write_addr_error(line, seq, why, buffer),
         ErrorReply::Descriptor => descriptor_rsp_error(seq, why, address, buffer),
         ErrorReply::ActiveEp => active_ep_rsp_error(seq, why, address, buffer),
         ErrorReply::SimpleDesc => simple_desc_rsp_error(seq, why, address, buffer),
         ErrorReply::MatchDesc => match_desc_rsp_error(seq, why, buffer),
     }
+}
+
+// Writes an address reply that reports an error.
+fn write_addr_error(line: &[u8], seq: u8, why: DiscoveryError, buffer: &mut [u8]) -> Written {
+    let ieee = IeeeAddress(words::hex_in(line, 3));
+    addr_rsp_error(seq, why, ieee, ShortAddress(words::u16_in(line, 4)), buffer)
 }
 
 // The error of discovery at a place of its enum.

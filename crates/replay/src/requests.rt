@@ -1,9 +1,9 @@
 // The questions about requests (oracle/README.md, "Requests").
 use crate::bindings;
 use crate::out;
+use crate::out::Text;
 use crate::replies;
 use crate::words;
-use crate::words::asks;
 use aps_binding::binding::Binding;
 use zdo_bind_req::descriptor::parse_bind_req;
 use zdo_leave_req::descriptor::parse_mgmt_leave_req;
@@ -31,168 +31,145 @@ enum Request {
     MgmtLeave,
 }
 
-// What a line asks about requests.
-enum Question {
-    Parse(Request),
-    NodeDesc,
-    Constants,
-    Other,
-}
-
-// Which question about requests a line is.
-fn asked(line: &[u8]) -> Question {
-    if asks(line, b"parse_nwk_addr_req b") {
-        return Question::Parse(Request::NwkAddr);
-    }
-    if asks(line, b"parse_ieee_addr_req b") {
-        return Question::Parse(Request::IeeeAddr);
-    }
-    if asks(line, b"parse_addr_of_interest b") {
-        return Question::Parse(Request::AddrOfInterest);
-    }
-    if asks(line, b"parse_match_desc_req b") {
-        return Question::Parse(Request::MatchDesc);
-    }
-    if asks(line, b"parse_bind_req b") {
-        return Question::Parse(Request::Bind);
-    }
-    if asks(line, b"parse_mgmt_leave_req b") {
-        return Question::Parse(Request::MgmtLeave);
-    }
-    if asks(line, b"node_desc_req 1 2 b") {
-        return Question::NodeDesc;
-    }
-    if asks(line, b"constants") {
-        return Question::Constants;
-    }
-    Question::Other
-}
-
-// Puts the answer to a question about requests, or about replies. The place stays where the line is none.
-pub(crate) fn answer(line: &[u8], space: &mut [u8], out: &mut [u8], at: usize) -> usize {
-    match asked(line) {
-        Question::Parse(request) => parse(line, request, space, out, at),
-        Question::NodeDesc => node_desc(line, space, out, at),
-        Question::Constants => constants(out, at),
-        Question::Other => replies::answer(line, space, out, at),
+// Puts the answer to a question about requests, or hands the line on.
+pub(crate) fn answer(line: &[u8], text: Text) -> Text {
+    let questions = b"parse_nwk_addr_req b;\
+        parse_ieee_addr_req b;\
+        parse_addr_of_interest b;\
+        parse_match_desc_req b;\
+        parse_bind_req b;\
+        parse_mgmt_leave_req b;\
+        node_desc_req 1 2 b;\
+        constants";
+    match words::which(line, questions) {
+        0 => parse(line, Request::NwkAddr, text),
+        1 => parse(line, Request::IeeeAddr, text),
+        2 => parse(line, Request::AddrOfInterest, text),
+        3 => parse(line, Request::MatchDesc, text),
+        4 => parse(line, Request::Bind, text),
+        5 => parse(line, Request::MgmtLeave, text),
+        6 => node_desc(line, text),
+        7 => constants(text),
+        _ => replies::answer(line, text),
     }
 }
 
 // Puts the request that is parsed: behind the question's name stand BYTES.
-fn parse(line: &[u8], request: Request, space: &mut [u8], out: &mut [u8], at: usize) -> usize {
-    let count = words::bytes_in(line, 1, space);
+fn parse(line: &[u8], request: Request, text: Text) -> Text {
+    let mut space = [0u8; words::BYTES];
+    let count = words::bytes_in(line, 1, &mut space);
     let bytes = &space[0..count];
     match request {
-        Request::NwkAddr => nwk_addr(bytes, out, at),
-        Request::IeeeAddr => ieee_addr(bytes, out, at),
-        Request::AddrOfInterest => addr_of_interest(bytes, out, at),
-        Request::MatchDesc => match_desc(bytes, out, at),
-        Request::Bind => bind(bytes, out, at),
-        Request::MgmtLeave => mgmt_leave(bytes, out, at),
+        Request::NwkAddr => nwk_addr(bytes, text),
+        Request::IeeeAddr => ieee_addr(bytes, text),
+        Request::AddrOfInterest => addr_of_interest(bytes, text),
+        Request::MatchDesc => match_desc(bytes, text),
+        Request::Bind => bind(bytes, text),
+        Request::MgmtLeave => mgmt_leave(bytes, text),
     }
 }
 
 // Puts a request for a short address, or `R`.
-fn nwk_addr(bytes: &[u8], out: &mut [u8], at: usize) -> usize {
+fn nwk_addr(bytes: &[u8], text: Text) -> Text {
     match descriptor::parse_nwk_addr_req(bytes) {
         NwkAddrReqRead::Request(request) => {
-            let at = out::hex_u8(out, at, request.seq);
-            let at = out::byte(out, at, b' ');
-            let at = out::hex_u64(out, at, request.ieee_addr.0);
-            let at = out::byte(out, at, b' ');
-            out::hex_u8(out, at, request.request_type)
+            let text = out::hex_u8(text, request.seq);
+            let text = out::byte(text, b' ');
+            let text = out::hex_u64(text, request.ieee_addr.0);
+            let text = out::byte(text, b' ');
+            out::hex_u8(text, request.request_type)
         }
-        NwkAddrReqRead::Refused(_) => out::byte(out, at, b'R'),
+        NwkAddrReqRead::Refused(_) => out::byte(text, b'R'),
     }
 }
 
 // Puts a request for an IEEE address, or `R`.
-fn ieee_addr(bytes: &[u8], out: &mut [u8], at: usize) -> usize {
+fn ieee_addr(bytes: &[u8], text: Text) -> Text {
     match descriptor::parse_ieee_addr_req(bytes) {
         IeeeAddrReqRead::Request(request) => {
-            let at = out::hex_u8(out, at, request.seq);
-            let at = put_u16(request.nwk_addr_of_interest.0, out, at);
-            let at = out::byte(out, at, b' ');
-            out::hex_u8(out, at, request.request_type)
+            let text = out::hex_u8(text, request.seq);
+            let text = put_u16(request.nwk_addr_of_interest.0, text);
+            let text = out::byte(text, b' ');
+            out::hex_u8(text, request.request_type)
         }
-        IeeeAddrReqRead::Refused(_) => out::byte(out, at, b'R'),
+        IeeeAddrReqRead::Refused(_) => out::byte(text, b'R'),
     }
 }
 
 // Puts the address that a request is about, or `R`.
-fn addr_of_interest(bytes: &[u8], out: &mut [u8], at: usize) -> usize {
+fn addr_of_interest(bytes: &[u8], text: Text) -> Text {
     match descriptor::parse_addr_of_interest(bytes) {
-        AddrOfInterestRead::Address(address) => out::hex_u16(out, at, address.0),
-        AddrOfInterestRead::Refused(_) => out::byte(out, at, b'R'),
+        AddrOfInterestRead::Address(address) => out::hex_u16(text, address.0),
+        AddrOfInterestRead::Refused(_) => out::byte(text, b'R'),
     }
 }
 
 // Puts a match request, or `R`.
-fn match_desc(bytes: &[u8], out: &mut [u8], at: usize) -> usize {
+fn match_desc(bytes: &[u8], text: Text) -> Text {
     match parse_match_desc_req(bytes) {
         MatchDescReqRead::Request(request) => {
             let inputs = request.input_clusters;
             let outputs = request.output_clusters;
-            let at = out::hex_u8(out, at, request.seq);
-            let at = put_u16(request.nwk_addr_of_interest.0, out, at);
-            let at = put_u16(request.profile_id, out, at);
-            let at = put_places(inputs, out, at);
-            let at = put_places(outputs, out, at);
-            let at = put_list(bytes, inputs, out, at);
-            put_list(bytes, outputs, out, at)
+            let text = out::hex_u8(text, request.seq);
+            let text = put_u16(request.nwk_addr_of_interest.0, text);
+            let text = put_u16(request.profile_id, text);
+            let text = put_places(inputs, text);
+            let text = put_places(outputs, text);
+            let text = put_list(bytes, inputs, text);
+            put_list(bytes, outputs, text)
         }
-        MatchDescReqRead::Refused(_) => out::byte(out, at, b'R'),
+        MatchDescReqRead::Refused(_) => out::byte(text, b'R'),
     }
 }
 
 // Puts a number of two bytes after a space.
-fn put_u16(number: u16, out: &mut [u8], at: usize) -> usize {
-    let at = out::byte(out, at, b' ');
-    out::hex_u16(out, at, number)
+fn put_u16(number: u16, text: Text) -> Text {
+    let text = out::byte(text, b' ');
+    out::hex_u16(text, number)
 }
 
 // Puts where a list stands, and how many entries it has, each after a space.
-fn put_places(list: Places, out: &mut [u8], at: usize) -> usize {
-    let at = out::byte(out, at, b' ');
-    let at = out::decimal(out, at, list.start);
-    let at = out::byte(out, at, b' ');
-    out::decimal(out, at, list.count)
+fn put_places(list: Places, text: Text) -> Text {
+    let text = out::byte(text, b' ');
+    let text = out::decimal(text, list.start);
+    let text = out::byte(text, b' ');
+    out::decimal(text, list.count)
 }
 
 // Puts the clusters of a list in a payload after a space: `-` where there are none, and `?` for one past the end.
-fn put_list(bytes: &[u8], list: Places, out: &mut [u8], at: usize) -> usize {
-    let mut at = out::byte(out, at, b' ');
+fn put_list(bytes: &[u8], list: Places, text: Text) -> Text {
+    let mut text = out::byte(text, b' ');
     if list.count == 0 {
-        return out::byte(out, at, b'-');
+        return out::byte(text, b'-');
     }
     let mut place = list.start;
     let mut i: usize = 0;
     while i < list.count {
         if bytes.len() <= place {
-            return out::byte(out, at, b'?');
+            return out::byte(text, b'?');
         }
         if bytes.len() - place < 2 {
-            return out::byte(out, at, b'?');
+            return out::byte(text, b'?');
         }
         let cluster = byte::read_u16(bytes, place);
-        at = out::hex_u16(out, at, cluster.value);
+        text = out::hex_u16(text, cluster.value);
         place = cluster.next;
         i += 1;
     }
-    at
+    text
 }
 
 // Puts a request to bind or unbind, or `R`.
-fn bind(bytes: &[u8], out: &mut [u8], at: usize) -> usize {
+fn bind(bytes: &[u8], text: Text) -> Text {
     match parse_bind_req(bytes) {
         BindReqRead::Request(request) => {
-            let at = out::hex_u8(out, at, request.seq);
-            let at = out::byte(out, at, b' ');
-            let at = out::hex_u64(out, at, request.src_address.0);
-            let at = out::byte(out, at, b' ');
-            bindings::put_entry(entry(request), out, at)
+            let text = out::hex_u8(text, request.seq);
+            let text = out::byte(text, b' ');
+            let text = out::hex_u64(text, request.src_address.0);
+            let text = out::byte(text, b' ');
+            bindings::put_entry(entry(request), text)
         }
-        BindReqRead::Refused(_) => out::byte(out, at, b'R'),
+        BindReqRead::Refused(_) => out::byte(text, b'R'),
     }
 }
 
@@ -210,41 +187,42 @@ fn entry(request: BindReq) -> Binding {
 }
 
 // Puts a leave request, or `R`.
-fn mgmt_leave(bytes: &[u8], out: &mut [u8], at: usize) -> usize {
+fn mgmt_leave(bytes: &[u8], text: Text) -> Text {
     match parse_mgmt_leave_req(bytes) {
         MgmtLeaveReqRead::Request(request) => {
             let device_address = request.device_address;
-            let at = out::hex_u8(out, at, request.seq);
-            let at = out::byte(out, at, b' ');
-            let at = put_address(device_address, out, at);
-            let at = out::byte(out, at, b' ');
-            let at = out::flag(out, at, request.remove_children);
-            let at = out::byte(out, at, b' ');
-            out::flag(out, at, request.rejoin)
+            let text = out::hex_u8(text, request.seq);
+            let text = out::byte(text, b' ');
+            let text = put_address(device_address, text);
+            let text = out::byte(text, b' ');
+            let text = out::flag(text, request.remove_children);
+            let text = out::byte(text, b' ');
+            out::flag(text, request.rejoin)
         }
-        MgmtLeaveReqRead::Refused(_) => out::byte(out, at, b'R'),
+        MgmtLeaveReqRead::Refused(_) => out::byte(text, b'R'),
     }
 }
 
 // Puts an IEEE address, or `-` for none.
-fn put_address(address: OptionIeeeAddress, out: &mut [u8], at: usize) -> usize {
+fn put_address(address: OptionIeeeAddress, text: Text) -> Text {
     match address {
-        OptionIeeeAddress::Some(address) => out::hex_u64(out, at, address.0),
-        OptionIeeeAddress::None => out::byte(out, at, b'-'),
+        OptionIeeeAddress::Some(address) => out::hex_u64(text, address.0),
+        OptionIeeeAddress::None => out::byte(text, b'-'),
     }
 }
 
 // Puts the answer to a write: behind its name stand NUMBER SHORT BUFFER.
-fn node_desc(line: &[u8], space: &mut [u8], out: &mut [u8], at: usize) -> usize {
+fn node_desc(line: &[u8], text: Text) -> Text {
     let address = ShortAddress(words::u16_in(line, 2));
-    let count = words::bytes_in(line, 3, space);
+    let mut space = [0u8; words::BYTES];
+    let count = words::bytes_in(line, 3, &mut space);
     let buffer = &mut space[0..count];
     let answer = descriptor::node_desc_req(words::u8_in(line, 1), address, buffer);
-    out::written(out, at, answer, words::word_of(line, 3), buffer)
+    out::written(text, answer, words::word_of(line, 3), buffer)
 }
 
 // Puts the clusters of the requests and of the replies, and the types of an address request.
-fn constants(out: &mut [u8], at: usize) -> usize {
+fn constants(text: Text) -> Text {
     let clusters = [
         descriptor::NWK_ADDR_REQ,
         descriptor::IEEE_ADDR_REQ,
@@ -267,14 +245,14 @@ fn constants(out: &mut [u8], at: usize) -> usize {
         descriptor::UNBIND_RSP,
         descriptor::MGMT_LEAVE_RSP,
     ];
-    let mut at = at;
+    let mut text = text;
     let mut i: usize = 0;
     while i < 20 {
-        at = out::hex_u16(out, at, clusters[i]);
-        at = out::byte(out, at, b' ');
+        text = out::hex_u16(text, clusters[i]);
+        text = out::byte(text, b' ');
         i += 1;
     }
-    at = out::hex_u8(out, at, descriptor::ADDR_REQUEST_SINGLE);
-    at = out::byte(out, at, b' ');
-    out::hex_u8(out, at, descriptor::ADDR_REQUEST_EXTENDED)
+    text = out::hex_u8(text, descriptor::ADDR_REQUEST_SINGLE);
+    text = out::byte(text, b' ');
+    out::hex_u8(text, descriptor::ADDR_REQUEST_EXTENDED)
 }

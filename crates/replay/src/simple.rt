@@ -1,5 +1,6 @@
 // The question about the simple descriptor (oracle/README.md, "Descriptors").
 use crate::out;
+use crate::out::Text;
 use crate::tables;
 use crate::words;
 use crate::words::asks;
@@ -7,50 +8,38 @@ use crate::words::u8_at;
 use crate::words::u16_at;
 use simple_descriptor::descriptor;
 use zigbee_types::Written;
-ghost use Prim.Native.Nat.{_+_, _≤_};
-ghost use lib.ListN.{length};
 
-// Puts the answer to a question about the simple descriptor, or about device tables. The place stays where the line is none.
-pub(crate) fn answer(
-    line: &[u8],
-    space: &mut [u8],
-    clusters: &mut [u16],
-    out: &mut [u8],
-    at: usize,
-) -> usize {
+// Puts the answer to a question about the simple descriptor, or hands the line on.
+pub(crate) fn answer(line: &[u8], text: Text) -> Text {
     if asks(line, b"EndpointDescriptor::write e c c b") {
-        return write(line, space, clusters, out, at);
+        return write(line, text);
     }
-    tables::answer(line, space, clusters, out, at)
+    tables::answer(line, text)
 }
 
 // Puts the answer to a write: behind its name stand ENDPOINT CLUSTERS CLUSTERS BUFFER.
-fn write(line: &[u8], space: &mut [u8], clusters: &mut [u16], out: &mut [u8], at: usize) -> usize {
-    let inputs = words::clusters_in(line, 2, clusters);
-    let outputs = words::clusters_in(line, 3, &mut clusters[inputs..]);
-    let count = words::bytes_in(line, 4, space);
+fn write(line: &[u8], text: Text) -> Text {
+    let mut space = [0u8; words::BYTES];
+    let count = words::bytes_in(line, 4, &mut space);
     let buffer = &mut space[0..count];
-    let answer = write_endpoint(words::word_of(line, 1), clusters, inputs, outputs, buffer);
-    out::written(out, at, answer, words::word_of(line, 4), buffer)
+    let answer = write_endpoint(line, buffer);
+    out::written(text, answer, words::word_of(line, 4), buffer)
 }
 
-// Writes the endpoint that a word says. Of the clusters, so many are its inputs, and so many behind those its outputs.
-fn write_endpoint(
-    word: &[u8],
-    clusters: &[u16],
-    inputs: usize,
-    outputs: usize,
-    buffer: &mut [u8],
-) -> Written
-    requires { ⌜ inputs + outputs ≤ length (now clusters) ⌝ }
-{
+// Writes the endpoint with its two lists.
+fn write_endpoint(line: &[u8], buffer: &mut [u8]) -> Written {
+    let word = words::word_of(line, 1);
+    let mut inputs = [0u16; words::CLUSTERS];
+    let input_count = words::clusters_in(line, 2, &mut inputs);
+    let mut outputs = [0u16; words::CLUSTERS];
+    let output_count = words::clusters_in(line, 3, &mut outputs);
     descriptor::write(
         u8_at(word, 0),
         u16_at(word, 1),
         u16_at(word, 3),
         u8_at(word, 5),
-        &clusters[0..inputs],
-        &clusters[inputs..inputs + outputs],
+        &inputs[0..input_count],
+        &outputs[0..output_count],
         buffer,
     )
 }

@@ -1,8 +1,9 @@
 // The questions about device tables (oracle/README.md, "Device tables"). TABLES are three words: CLUSTERS CLUSTERS RECORDS.
 use crate::out;
+use crate::out::Text;
 use crate::power;
+use crate::requests;
 use crate::words;
-use crate::words::asks;
 use crate::words::u8_at;
 use crate::words::u16_at;
 use node_descriptor::descriptor::NodeDescriptorConfig;
@@ -15,6 +16,7 @@ use zdo_device_rsp::descriptor::simple_desc_rsp;
 use zdo_match_req::descriptor::parse_match_desc_req;
 use zdo_matching::descriptor::Matching;
 use zdo_matching::descriptor::matching_endpoints;
+use zdo_requests::descriptor::MatchDescReq;
 use zdo_requests::descriptor::MatchDescReqRead;
 use zigbee_types::ShortAddress;
 use zigbee_types::Written;
@@ -27,67 +29,39 @@ enum Reply {
     SimpleDesc,
 }
 
-// What a line asks about tables.
-enum Question {
-    Endpoint,
-    SupportsEndpoint,
-    Write(Reply),
-    Other,
-}
-
-// Which question about tables a line is.
-fn asked(line: &[u8]) -> Question {
-    if asks(line, b"endpoint c c T 1") {
-        return Question::Endpoint;
-    }
-    if asks(line, b"supports_endpoint c c T 1") {
-        return Question::SupportsEndpoint;
-    }
-    if asks(line, b"matching_endpoints b c c T b") {
-        return Question::Write(Reply::Matching);
-    }
-    if asks(line, b"active_ep_rsp 1 2 c c T b") {
-        return Question::Write(Reply::ActiveEp);
-    }
-    if asks(line, b"simple_desc_rsp 1 2 1 c c T b") {
-        return Question::Write(Reply::SimpleDesc);
-    }
-    Question::Other
-}
-
-// Puts the answer to a question about tables. The place stays where the line is none.
-pub(crate) fn answer(
-    line: &[u8],
-    space: &mut [u8],
-    clusters: &mut [u16],
-    out: &mut [u8],
-    at: usize,
-) -> usize {
-    match asked(line) {
-        Question::Endpoint => endpoint(line, clusters, out, at),
-        Question::SupportsEndpoint => supports_endpoint(line, out, at),
-        Question::Write(reply) => write(line, reply, space, clusters, out, at),
-        Question::Other => at,
+// Puts the answer to a question about tables, or hands the line on.
+pub(crate) fn answer(line: &[u8], text: Text) -> Text {
+    let questions = b"endpoint c c T 1;\
+        supports_endpoint c c T 1;\
+        matching_endpoints b c c T b;\
+        active_ep_rsp 1 2 c c T b;\
+        simple_desc_rsp 1 2 1 c c T b";
+    match words::which(line, questions) {
+        0 => endpoint(line, text),
+        1 => supports_endpoint(line, text),
+        2 => write(line, Reply::Matching, text),
+        3 => write(line, Reply::ActiveEp, text),
+        4 => write(line, Reply::SimpleDesc, text),
+        _ => requests::answer(line, text),
     }
 }
 
 // Puts the record of an endpoint with its two lists, or `-`: behind the question's name stand TABLES NUMBER.
-fn endpoint(line: &[u8], clusters: &mut [u16], out: &mut [u8], at: usize) -> usize {
-    let inputs = words::clusters_in(line, 1, clusters);
-    let outputs = words::clusters_in(line, 2, &mut clusters[inputs..]);
-    let input_pool = &clusters[0..inputs];
-    let output_pool = &clusters[inputs..inputs + outputs];
-    put_endpoint(line, input_pool, output_pool, out, at)
+fn endpoint(line: &[u8], text: Text) -> Text {
+    let mut inputs = [0u16; words::CLUSTERS];
+    let input_count = words::clusters_in(line, 1, &mut inputs);
+    let mut outputs = [0u16; words::CLUSTERS];
+    let output_count = words::clusters_in(line, 2, &mut outputs);
+    put_endpoint(
+        line,
+        &inputs[0..input_count],
+        &outputs[0..output_count],
+        text,
+    )
 }
 
 // The same, with these pools.
-fn put_endpoint<'a>(
-    line: &[u8],
-    inputs: &'a [u16],
-    outputs: &'a [u16],
-    out: &mut [u8],
-    at: usize,
-) -> usize {
+fn put_endpoint<'a>(line: &[u8], inputs: &'a [u16], outputs: &'a [u16], text: Text) -> Text {
     let number = words::u8_in(line, 4);
     let device = device_of(
         words::word_of(line, 3),
@@ -98,67 +72,69 @@ fn put_endpoint<'a>(
     );
     match device.endpoint(number) {
         OptionEndpoint::Some(ep) => {
-            let at = put_fields(ep, out, at);
+            let text = put_fields(ep, text);
             let own = device.endpoint_clusters(Side::Input, number, inputs, outputs);
-            let at = put_clusters(own, out, at);
+            let text = put_clusters(own, text);
             let own = device.endpoint_clusters(Side::Output, number, inputs, outputs);
-            put_clusters(own, out, at)
+            put_clusters(own, text)
         }
-        OptionEndpoint::None => out::byte(out, at, b'-'),
+        OptionEndpoint::None => out::byte(text, b'-'),
     }
 }
 
 // Puts the fields of a record that stand before its parts of the pools.
-fn put_fields(ep: EndpointDescriptor, out: &mut [u8], at: usize) -> usize {
-    let at = out::hex_u8(out, at, ep.endpoint);
-    let at = out::hex_u16(out, at, ep.profile_id);
-    let at = out::hex_u16(out, at, ep.device_id);
-    out::hex_u8(out, at, ep.device_version)
+fn put_fields(ep: EndpointDescriptor, text: Text) -> Text {
+    let text = out::hex_u8(text, ep.endpoint);
+    let text = out::hex_u16(text, ep.profile_id);
+    let text = out::hex_u16(text, ep.device_id);
+    out::hex_u8(text, ep.device_version)
 }
 
 // Puts clusters after a space, or `-` where there are none.
-fn put_clusters(clusters: &[u16], out: &mut [u8], at: usize) -> usize {
-    let mut at = out::byte(out, at, b' ');
+fn put_clusters(clusters: &[u16], text: Text) -> Text {
+    let mut text = out::byte(text, b' ');
     if clusters.len() == 0 {
-        return out::byte(out, at, b'-');
+        return out::byte(text, b'-');
     }
     let mut i: usize = 0;
     while i < clusters.len() {
-        at = out::hex_u16(out, at, clusters[i]);
+        text = out::hex_u16(text, clusters[i]);
         i += 1;
     }
-    at
+    text
 }
 
 // Puts whether there is an endpoint: behind the question's name stand TABLES NUMBER.
-fn supports_endpoint(line: &[u8], out: &mut [u8], at: usize) -> usize {
+fn supports_endpoint(line: &[u8], text: Text) -> Text {
     let number = words::u8_in(line, 4);
     let device = device_of(words::word_of(line, 3), number, 0, 0, 0);
-    out::flag(out, at, device.supports_endpoint(number))
+    out::flag(text, device.supports_endpoint(number))
 }
 
 // Puts the answer to a write: behind its name stand arguments of its own, TABLES and BUFFER.
-fn write(
-    line: &[u8],
-    reply: Reply,
-    space: &mut [u8],
-    clusters: &mut [u16],
-    out: &mut [u8],
-    at: usize,
-) -> usize {
-    let first = first_of(reply);
-    let inputs = words::clusters_in(line, first, clusters);
-    let outputs = words::clusters_in(line, first + 1, &mut clusters[inputs..]);
-    let input_pool = &clusters[0..inputs];
-    let output_pool = &clusters[inputs..inputs + outputs];
-    let count = words::bytes_in(line, first + 3, space);
+fn write(line: &[u8], reply: Reply, text: Text) -> Text {
+    let last = words::arguments(line);
+    let mut space = [0u8; words::BYTES];
+    let count = words::bytes_in(line, last, &mut space);
     let buffer = &mut space[0..count];
-    let answer = match reply {
+    let answer = write_reply(line, reply, buffer);
+    out::written(text, answer, words::word_of(line, last), buffer)
+}
+
+// Writes what is asked for from the tables.
+fn write_reply(line: &[u8], reply: Reply, buffer: &mut [u8]) -> Written {
+    let first = first_of(reply);
+    let mut inputs = [0u16; words::CLUSTERS];
+    let input_count = words::clusters_in(line, first, &mut inputs);
+    let mut outputs = [0u16; words::CLUSTERS];
+    let output_count = words::clusters_in(line, first + 1, &mut outputs);
+    let input_pool = &inputs[0..input_count];
+    let output_pool = &outputs[0..output_count];
+    match reply {
         Reply::Matching => matching(line, input_pool, output_pool, buffer),
         Reply::ActiveEp => active_ep(line, input_pool, output_pool, buffer),
         Reply::SimpleDesc => simple_desc(line, input_pool, output_pool, buffer),
-    };
-    out::written(out, at, answer, words::word_of(line, first + 3), buffer)
+    }
 }
 
 // Which word of a question is the first of its TABLES.
@@ -172,22 +148,38 @@ fn first_of(reply: Reply) -> usize
     }
 }
 
-// Writes the endpoints that match: behind the question's name stand BYTES TABLES BUFFER. The bytes are at most half a question's
-// characters.
+// Writes the endpoints that match: behind the question's name stand BYTES TABLES BUFFER.
 fn matching<'a>(line: &[u8], inputs: &'a [u16], outputs: &'a [u16], buffer: &mut [u8]) -> Written {
-    let mut bytes = [0u8; 8192];
+    let mut bytes = [0u8; words::BYTES];
     let count = words::bytes_in(line, 1, &mut bytes);
     let payload = &bytes[0..count];
     match parse_match_desc_req(payload) {
         MatchDescReqRead::Request(request) => {
-            let word = words::word_of(line, 4);
-            let device = device_of(word, 0xEE, request.profile_id, inputs.len(), outputs.len());
-            match matching_endpoints(device, inputs, outputs, request, payload, buffer) {
-                Matching::Matched(matched) => Written::Length(matched.written),
-                Matching::Refused(why) => Written::Refused(why),
-            }
+            matched(line, inputs, outputs, request, payload, buffer)
         }
         MatchDescReqRead::Refused(why) => Written::Refused(why),
+    }
+}
+
+// Writes the endpoints that match a request, which was parsed from a payload.
+fn matched<'a>(
+    line: &[u8],
+    inputs: &'a [u16],
+    outputs: &'a [u16],
+    request: MatchDescReq,
+    payload: &[u8],
+    buffer: &mut [u8],
+) -> Written {
+    let word = words::word_of(line, 4);
+    let device = device_of(word, 0xEE, request.profile_id, inputs.len(), outputs.len());
+    of_matching(matching_endpoints(device, inputs, outputs, request, payload, buffer))
+}
+
+// What a match wrote.
+fn of_matching(matching: Matching) -> Written {
+    match matching {
+        Matching::Matched(matched) => Written::Length(matched.written),
+        Matching::Refused(why) => Written::Refused(why),
     }
 }
 

@@ -20,6 +20,39 @@ use crate::values;
 ghost use Prim.Native.Nat.{_≤_, _<_};
 ghost use lib.ListN.{length};
 
+// The most bytes of an argument: it has at most half as many as a question may have characters.
+pub(crate) const BYTES: usize = 8192;
+
+// The most clusters of an argument.
+pub(crate) const CLUSTERS: usize = 4096;
+
+// Which of some questions a line asks, the first being 0, or how many they are where it asks none of them. They have a `;` between
+// them.
+pub(crate) fn which(line: &[u8], questions: &[u8]) -> usize {
+    let mut number: usize = 0;
+    let mut start: usize = 0;
+    while start < questions.len() {
+        let end = question_end(questions, start);
+        if asks(line, &questions[start..end]) {
+            return number;
+        }
+        number += 1;
+        if questions.len() <= end {
+            return number;
+        }
+        start = end + 1;
+    }
+    number
+}
+
+// The place of the first `;` from a place on, or the end of the questions where there is none.
+fn question_end(questions: &[u8], start: usize) -> usize
+    requires { ⌜ start ≤ length (now questions) ⌝ }
+    ensures { λ r. ⌜ (start ≤ r) × (r ≤ length (now (questions .entry))) ⌝ }
+{
+    bytes::scan::find(questions, start, questions.len(), b';')
+}
+
 // Whether a line asks a question: its name, an argument of each of its kinds, and nothing else. The question is written as its
 // name and the letters of its kinds, each after a space: `write_u16 d 2 b`.
 pub(crate) fn asks(line: &[u8], question: &[u8]) -> bool {

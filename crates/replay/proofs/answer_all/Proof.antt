@@ -6,12 +6,10 @@ use Rattle.replay.proofs.answer_all.Statement.{statement}
 use Rattle.replay.proofs.answer_all.Tie as tie
 
 abbrev Inv-loop : tie.InvT-loop
-Inv-loop input₀ line₀ space₀ clusters₀ answers₀ count₀ turns₀ input line space clusters answers count turns =
-    (length input ≡ length input₀) × (length line ≡ length line₀) × (length space ≡ length space₀) ×
-    (length clusters ≡ length clusters₀) × (length answers ≡ length answers₀)
+Inv-loop input₀ line₀ count₀ turns₀ input line count turns = (length input ≡ length input₀) × (length line ≡ length line₀)
 
 abbrev μ-loop : tie.MeasureT-loop
-μ-loop input₀ line₀ space₀ clusters₀ answers₀ count₀ turns₀ input line space clusters answers count turns = turns
+μ-loop input₀ line₀ count₀ turns₀ input line count turns = turns
 
 pub answer-all-spec : {M : Type 1} → statement M
 answer-all-spec =
@@ -25,18 +23,12 @@ answer-all-spec =
     (λ c κs. search needs)  -- answer-last-requires
     (λ c. search needs)  -- same-length
     (λ c. search needs)  -- same-length-2
-    (λ c. search needs)  -- same-length-3
-    (λ c. search needs)  -- same-length-4
-    (λ c. search needs)  -- same-length-5
     (λ c. search needs)  -- returns
     (λ c κs. search needs)  -- front-requires
     (λ c κs. search needs)  -- take-requires
     (λ c. search needs)  -- sub-turns
     (λ c. search needs)  -- loop-less
     (λ c. search needs)  -- loop-again
-    (λ c. search needs)  -- same-length-6
-    (λ c. search needs)  -- same-length-7
-    (λ c. search needs)  -- same-length-8
-    (λ c. search needs)  -- same-length-9
-    (λ c. search needs)  -- same-length-10
+    (λ c. search needs)  -- same-length-3
+    (λ c. search needs)  -- same-length-4
     (λ c. search needs))  -- returns-2

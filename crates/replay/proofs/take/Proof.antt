@@ -1,4 +1,4 @@
--- `take` is safe and ends: it goes through the input from the front, and each slice keeps its length. Assumes nothing.
+-- `take` is safe and ends: it goes through the input from the front, and the line keeps its length. Assumes nothing.
 use Prim.Native.Nat.{_-_}
 use mathlib.Core.Path.{_≡_}
 use borrow.Author.Needs.{needs}
@@ -7,12 +7,10 @@ use Rattle.replay.proofs.take.Statement.{statement}
 use Rattle.replay.proofs.take.Tie as tie
 
 abbrev Inv-loop : tie.InvT-loop
-Inv-loop input line₀ count space₀ clusters₀ answers₀ count₀ at₀ i₀ line space clusters answers count' at i =
-    (length line ≡ length line₀) × (length space ≡ length space₀) ×
-    (length clusters ≡ length clusters₀) × (length answers ≡ length answers₀)
+Inv-loop input line₀ count count₀ i₀ line count' i = length line ≡ length line₀
 
 abbrev μ-loop : tie.MeasureT-loop
-μ-loop input line₀ count space₀ clusters₀ answers₀ count₀ at₀ i₀ line space clusters answers count' at i = length input - i
+μ-loop input line₀ count count₀ i₀ line count' i = length input - i
 
 pub take-spec : {M : Type 1} → statement M
 take-spec =
@@ -27,13 +25,8 @@ take-spec =
     (λ c κs. search needs)  -- answer-line-requires
     (λ c. search needs)  -- loop-less
     (λ c. search needs)  -- loop-again
-    (λ c κs. search needs)  -- byte-requires
+    (λ c κs. search needs)  -- put-requires
     (λ c. search needs)  -- loop-less-2
     (λ c. search needs)  -- loop-again-2
-    (λ c κs. search needs)  -- front-requires-2
-    (λ c κs. search needs)  -- write-all-requires
     (λ c. search needs)  -- same-length
-    (λ c. search needs)  -- same-length-2
-    (λ c. search needs)  -- same-length-3
-    (λ c. search needs)  -- same-length-4
     (λ c. search needs))  -- returns

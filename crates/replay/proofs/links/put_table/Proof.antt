@@ -1,16 +1,14 @@
--- `put_table` is safe and ends: it goes through the places from the front, and the slice keeps its length. Assumes nothing.
+-- `put_table` is safe and ends: it goes through the places from the front. Assumes nothing.
 use Prim.Native.Nat.{_-_}
-use mathlib.Core.Path.{_≡_}
 use borrow.Author.Needs.{needs}
-use lib.ListN.{length}
 use Rattle.replay.proofs.links.put_table.Statement.{statement}
 use Rattle.replay.proofs.links.put_table.Tie as tie
 
 abbrev Inv-loop : tie.InvT-loop
-Inv-loop out₀ at table at₀ i₀ out at' i = length out ≡ length out₀
+Inv-loop table text₀ i₀ text i = Unit {0}
 
 abbrev μ-loop : tie.MeasureT-loop
-μ-loop out₀ at table at₀ i₀ out at' i = 32 - i
+μ-loop table text₀ i₀ text i = 32 - i
 
 pub put-table-spec : {M : Type 1} → statement M
 put-table-spec =
@@ -21,7 +19,6 @@ put-table-spec =
     (λ c κs. search needs)  -- byte-requires
     (λ c κs. search needs)  -- decimal-requires
     (λ c. search needs)  -- loop-holds
-    (λ c. search needs)  -- same-length
     (λ c. search needs)  -- returns
     (λ c κs. search needs)  -- byte-requires-2
     (λ c. search needs)  -- mul-put-entry
@@ -30,5 +27,4 @@ put-table-spec =
     (λ c. search needs)  -- add-i
     (λ c. search needs)  -- loop-less
     (λ c. search needs)  -- loop-again
-    (λ c. search needs)  -- same-length-2
     (λ c. search needs))  -- returns-2

@@ -1,16 +1,14 @@
--- `constants` is safe and ends: it goes through the clusters from the front, and the slice keeps its length. Assumes nothing.
+-- `constants` is safe and ends: it goes through the clusters from the front. Assumes nothing.
 use Prim.Native.Nat.{_-_}
-use mathlib.Core.Path.{_≡_}
 use borrow.Author.Needs.{needs}
-use lib.ListN.{length}
 use Rattle.replay.proofs.requests.constants.Statement.{statement}
 use Rattle.replay.proofs.requests.constants.Tie as tie
 
 abbrev Inv-loop : tie.InvT-loop
-Inv-loop out₀ at clusters at₀ i₀ out at' i = length out ≡ length out₀
+Inv-loop clusters text₀ i₀ text i = Unit {0}
 
 abbrev μ-loop : tie.MeasureT-loop
-μ-loop out₀ at clusters at₀ i₀ out at' i = 20 - i
+μ-loop clusters text₀ i₀ text i = 20 - i
 
 pub constants-spec : {M : Type 1} → statement M
 constants-spec =
@@ -29,5 +27,4 @@ constants-spec =
     (λ c κs. search needs)  -- hex-u8-requires
     (λ c κs. search needs)  -- byte-requires-2
     (λ c κs. search needs)  -- hex-u8-requires-2
-    (λ c. search needs)  -- same-length
     (λ c. search needs))  -- returns
