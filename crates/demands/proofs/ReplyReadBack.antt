@@ -35,15 +35,22 @@ use Rattle.zdo_device.specs.declared.descriptor.EndpointDescriptor.{EndpointDes
 use Rattle.zdo_device.specs.declared.descriptor.DeviceDescriptorConfig.{DeviceDescriptorConfig}
 use Rattle.zdo_device_rsp.specs.TableReplies.{numbers, activeRspOf, activeEpRsp, simpleRspOf, simpleDescRsp}
 use Rattle.zdo_device_rsp.proofs.Described.{as-list}
-use Rattle.zdo_readers.specs.Readers.{headerWidths, headerIn, describedIn, nodeWith, nodeWithout, nodeReplyIn, powerWith, powerWithout, powerReplyIn, associatedIn, addrWidths, addrReplyIn, statusWidths, statusReplyIn}
+use Rattle.zdo_readers.specs.Readers.{headerWidths, headerIn, describedIn, nodeWith, nodeWithout, nodeReplyIn, nodeDescRspIn, powerWith, powerWithout, powerReplyIn, associatedIn, addrWidths, addrReplyIn, statusWidths, statusReplyIn}
+use Rattle.zdo_readers.specs.declared.descriptor.OptionServerMask.{OptionServerMask}
+use Rattle.zdo_readers.specs.declared.descriptor.OptionServerMask.the-variants as mask
 use Rattle.zdo_readers.specs.declared.readers.ReplyHeader.{ReplyHeader}
+use Rattle.zdo_readers.specs.declared.readers.NodeReply.{NodeReply}
+use Rattle.zdo_readers.specs.declared.readers.OptionNodeDescriptor.{OptionNodeDescriptor}
+use Rattle.zdo_readers.specs.declared.readers.OptionNodeDescriptor.the-variants as node
 use Rattle.zdo_readers.specs.declared.readers.OptionAssociated.the-variants as associated
 use Rattle.zdo_list_readers.specs.ListReaders.{listBehind, listReplyIn, matchErrorWidths, matchReplyInAs, matchReplyIn, shifted, shiftedFields, simpleWithin, simpleReplyIn}
 use Rattle.zdo_list_readers.specs.declared.readers.SimpleReply.{SimpleReply}
 use Rattle.zdo_list_readers.specs.declared.readers.OptionSimpleDescriptor.the-variants as simple
-use Rattle.demands.specs.ReplyReadBack.{ReadsAs, ReadsAloneAs, Failing, cutHeader, nodeSaid, nodeRead, powerSaid, powerRead, listSaid, listRead, MatchSaid, found, failed, matchSaid, matchRead, simpleSaid, simpleRead, cutAddr, noDevices, cutSimple, RepliesReadBack}
+use Rattle.demands.specs.ReplyReadBack.{ReadsAs, ReadsAloneAs, Failing, cutHeader, someNode, nodeSaid, nodeRead, powerSaid, powerRead, listSaid, listRead, MatchSaid, found, failed, matchSaid, matchRead, simpleSaid, simpleRead, cutAddr, cutRsp, noDevices, cutSimple, RepliesReadBack}
+use Rattle.demands.specs.TwoReaders.{maskOf, inBrief}
 use Rattle.demands.specs.ReadBack.{cutNode, cutPower, cutEndpoint}
 use Rattle.demands.proofs.Frames.{one-layout}
+use Rattle.demands.proofs.TwoReaders.{node-readers-agree}
 use Rattle.demands.proofs.ReadBack.{node-back, power-back, simple-front, simple-lists}
 
 -- ---- what was sent
@@ -101,6 +108,37 @@ module _
     unfolding describedIn andThen mapped cutHeader
     error-back status rest other = rw (header-back, ne-eqb _ _ other)
 
+-- the server mask of a descriptor's fields, where there are any
+abbrev maskFrom : Option NodeDescriptorConfig → OptionServerMask
+maskFrom (some c) = mask.Some (c .«server_mask»)
+maskFrom none = mask.None
+
+mask-from : (d : OptionNodeDescriptor) → maskFrom (someNode d) ≡ maskOf d
+mask-from (node.Some d) = refl
+mask-from node.None = refl
+
+-- what the reader of whole replies says, the other says of the mask
+mask-read :
+    (reply : List ℕ) (h : ReplyHeader) (o : Option NodeDescriptorConfig)
+    → nodeRead reply ≡ answer (h, o)
+    → nodeDescRspIn reply
+    ≡ answer (record { seq = h .seq; status = h .status; «nwk_addr_of_interest» = h .«nwk_addr_of_interest»; «server_mask» = maskFrom o })
+unfolding mapped inBrief
+mask-read reply h o e = go (nodeReplyIn reply) refl e
+  where
+    go :
+        (q : Outcome NodeReply)
+        → nodeReplyIn reply ≡ q
+        → mapped nodeSaid q ≡ answer (h, o)
+        → nodeDescRspIn reply
+        ≡ answer (record { seq = h .seq; status = h .status; «nwk_addr_of_interest» = h .«nwk_addr_of_interest»; «server_mask» = maskFrom o })
+    go (answer r) is said =
+        let same : nodeSaid r ≡ (h, o) = cc said in
+        let header-same : r .header ≡ h = ap (λ (x : ReplyHeader × Option NodeDescriptorConfig). x .0) same in
+        let fields-same : someNode (r .descriptor) ≡ o = ap (λ (x : ReplyHeader × Option NodeDescriptorConfig). x .1) same in
+        rw (node-readers-agree reply r is, ← mask-from (r .descriptor), header-same, fields-same)
+    go (refusal n) is said = absurd (refused said)
+
 module _ (seq : ℕ) (a : ShortAddress) where
   node-reply-back : (n : NodeDescriptorConfig) → ReadsAs (nodeDescRsp seq a n) nodeRead (answer (cutHeader seq SUCCESS a, some (cutNode n)))
   unfolding nodeDescRsp nodeReplyIn mapped
@@ -112,6 +150,17 @@ module _ (seq : ℕ) (a : ShortAddress) where
   unfolding descriptorRspError nodeReplyIn
   node-error-back status other =
       sent-back _ nodeRead _ (λ rest. error-back nodeDescriptorIn nodeWith nodeWithout nodeFields nodeSaid seq a status rest other)
+
+  mask-back :
+      (n : NodeDescriptorConfig)
+      → ReadsAs (nodeDescRsp seq a n) nodeDescRspIn (answer (cutRsp seq SUCCESS a (mask.Some (n .«server_mask» % 65536))))
+  unfolding cutHeader cutNode cutRsp
+  mask-back n before after rest told w = mask-read (take told after ++ rest) _ _ (node-reply-back n before after rest told w)
+
+  mask-error-back : (status : ℕ) → Failing status → ReadsAs (descriptorRspError seq status a) nodeDescRspIn (answer (cutRsp seq status a mask.None))
+  unfolding cutHeader cutRsp
+  mask-error-back status other before after rest told w =
+      mask-read (take told after ++ rest) _ _ (node-error-back status other before after rest told w)
 
   power-reply-back :
       (p : PowerDescriptorConfig)
@@ -335,6 +384,8 @@ replies-read-back =
     record {
       node = node-reply-back;
       nodeError = λ seq status a. node-error-back seq a status;
+      serverMask = mask-back;
+      serverMaskError = λ seq status a. mask-error-back seq a status;
       power = power-reply-back;
       powerError = λ seq status a. power-error-back seq a status;
       active = active-back;

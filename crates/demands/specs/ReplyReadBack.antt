@@ -23,7 +23,10 @@ use Rattle.zdo_replies.specs.Replies.{nodeDescRsp, powerDescRsp, descriptorRspE
 use Rattle.zdo_device.specs.Tables.{Pools, used, endpointRecord, endpointOf}
 use Rattle.zdo_device.specs.declared.descriptor.DeviceDescriptorConfig.{DeviceDescriptorConfig}
 use Rattle.zdo_device_rsp.specs.TableReplies.{numbers, activeEpRsp, simpleDescRsp}
-use Rattle.zdo_readers.specs.Readers.{nodeReplyIn, powerReplyIn, addrReplyIn, statusReplyIn}
+use Rattle.zdo_readers.specs.Readers.{nodeReplyIn, nodeDescRspIn, powerReplyIn, addrReplyIn, statusReplyIn}
+use Rattle.zdo_readers.specs.declared.descriptor.NodeDescRsp.{NodeDescRsp}
+use Rattle.zdo_readers.specs.declared.descriptor.OptionServerMask.{OptionServerMask}
+use Rattle.zdo_readers.specs.declared.descriptor.OptionServerMask.the-variants as mask
 use Rattle.zdo_readers.specs.declared.readers.ReplyHeader.{ReplyHeader}
 use Rattle.zdo_readers.specs.declared.readers.NodeReply.{NodeReply}
 use Rattle.zdo_readers.specs.declared.readers.OptionNodeDescriptor.{OptionNodeDescriptor}
@@ -132,6 +135,10 @@ cutAddr seq status long a o =
       associated = o;
     }
 
+-- what `parse_node_desc_rsp` is to give: sequence number, status and address, cut, and a server mask
+unfoldable pub cutRsp : ℕ → ℕ → ShortAddress → OptionServerMask → NodeDescRsp
+cutRsp seq status a m = record { seq = seq % 256; status = status % 256; «nwk_addr_of_interest» = shortOf (a .0 % 65536); «server_mask» = m }
+
 -- of a device without children an extended reply has two zeros, and behind them no list
 unfoldable pub noDevices : Bool → OptionAssociated
 noDevices true = associated.Some (record { «num_assoc_dev» = 0; «start_index» = 0; devices = record { start = 14; count = 0 } })
@@ -144,12 +151,16 @@ cutSimple seq a p d n =
 
 -- ---- the writers
 
--- each writer's reply is read back. Document 01's premises: the source of a power descriptor is usable (else the reader refuses it), a
+-- each writer's reply is read back, a node reply by both its readers. Document 01's premises: the source of a power descriptor is usable (else the reader refuses it), a
 -- list has at most 255 entries, and an error's status is another than SUCCESS. Active and simple errors do not need the last. An address
 -- reply of SUCCESS is read alone, since two bytes behind it would make it extended.
 pub record RepliesReadBack : Type 0 where
   pub node : (seq : ℕ) (a : ShortAddress) (n : NodeDescriptorConfig) → ReadsAs (nodeDescRsp seq a n) nodeRead (answer (cutHeader seq SUCCESS a, some (cutNode n)))
   pub nodeError : (seq status : ℕ) (a : ShortAddress) → Failing status → ReadsAs (descriptorRspError seq status a) nodeRead (answer (cutHeader seq status a, none))
+  pub serverMask :
+      (seq : ℕ) (a : ShortAddress) (n : NodeDescriptorConfig)
+      → ReadsAs (nodeDescRsp seq a n) nodeDescRspIn (answer (cutRsp seq SUCCESS a (mask.Some (n .«server_mask» % 65536))))
+  pub serverMaskError : (seq status : ℕ) (a : ShortAddress) → Failing status → ReadsAs (descriptorRspError seq status a) nodeDescRspIn (answer (cutRsp seq status a mask.None))
   pub power :
       (seq : ℕ) (a : ShortAddress) (p : PowerDescriptorConfig)
       → ReadsAs (powerDescRsp seq a p) powerRead
