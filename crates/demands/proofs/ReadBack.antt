@@ -9,7 +9,7 @@ use lib.ListN.{length, length-append}
 use lib.Dec.{leb}
 use borrow.Author.Tests.{leb-true}
 use Rattle.zigbee_types.specs.Outcome.{answer, refusal, andThen, mapped}
-use Rattle.zigbee_types.specs.Layout.{laid, cut, size, fieldsAt, listed}
+use Rattle.zigbee_types.specs.Layout.{laid, cut, fieldsAt, listed}
 use Rattle.zigbee_types.specs.Lists.{find, option}
 use Rattle.zigbee_types.specs.Named.{named}
 use Rattle.zigbee_types.specs.FieldLaws.{ListsAt}

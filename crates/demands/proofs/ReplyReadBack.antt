@@ -1,6 +1,6 @@
 -- A reply that was written reads back, for each writer and its reader. From the laws of tables of fields, of lists and of descriptors.
 -- Assumes nothing.
-use Prim.Native.Nat.{ℕ, _+_, _*_, _%_, _≤_, _<_, min}
+use Prim.Native.Nat.{ℕ, _+_, _*_, _%_, _≤_, min}
 use native.Mathlib.Omega.{arith}
 use mathlib.Core.Path.{_≡_, refl, sym, ap}
 use mathlib.Core.Bool.{Bool, true, false, _&&_, cond}
@@ -9,16 +9,16 @@ use mathlib.Core.Option.{Option, none, some}
 use lib.Dec.{eqb, leb}
 use lib.ListN.{length, take, drop, length-append, length-map, length-take}
 use lib.Seq.{take-at, drop-at}
-use borrow.Author.Tests.{ne-eqb, le-leb, lt-leb, leb-true}
-use Rattle.zigbee_types.specs.Outcome.{Outcome, answer, refusal, andThen, mapped, needing, Wrote}
+use borrow.Author.Tests.{ne-eqb, le-leb, leb-true}
+use Rattle.zigbee_types.specs.Outcome.{Outcome, answer, refusal, andThen, mapped, needing}
 use Rattle.zigbee_types.specs.Bytes.{le, number, numberAt}
-use Rattle.zigbee_types.specs.Layout.{Field, byte, laid, cut, listed, counted, behind, entriesAt, size}
+use Rattle.zigbee_types.specs.Layout.{Field, byte, laid, cut, listed}
 use Rattle.zigbee_types.specs.Lists.{part, option}
-use Rattle.zigbee_types.specs.FieldLaws.{placesAt, entriesCut, ListAt, ListsAt}
+use Rattle.zigbee_types.specs.FieldLaws.{placesAt, ListAt}
 use Rattle.zigbee_types.specs.Statuses.{SUCCESS, NOT-ACTIVE}
 use Rattle.zigbee_types.specs.declared.IeeeAddress.{IeeeAddress}
 use Rattle.zigbee_types.specs.declared.ShortAddress.{ShortAddress}
-use Rattle.zigbee_types.proofs.Layouts.{laid-back, parses, counted-back, lists-back, length-listed}
+use Rattle.zigbee_types.proofs.Layouts.{parses, counted-back, length-listed}
 use Rattle.zigbee_types.proofs.Runs.{laid-append}
 use Rattle.zigbee_types.proofs.Outcomes.{Stands, granted, refused, mapped-granted, wrote-bytes, wrote-answer}
 use Rattle.node_descriptor.specs.NodeDescriptor.{nodeDescriptor, nodeDescriptorIn, nodeFields}
@@ -44,9 +44,8 @@ use Rattle.zdo_readers.specs.declared.readers.OptionNodeDescriptor.{OptionNodeD
 use Rattle.zdo_readers.specs.declared.readers.OptionNodeDescriptor.the-variants as node
 use Rattle.zdo_readers.specs.declared.readers.OptionAssociated.the-variants as associated
 use Rattle.zdo_list_readers.specs.ListReaders.{listBehind, listReplyIn, matchErrorWidths, matchReplyInAs, matchReplyIn, shifted, shiftedFields, simpleWithin, simpleReplyIn}
-use Rattle.zdo_list_readers.specs.declared.readers.SimpleReply.{SimpleReply}
 use Rattle.zdo_list_readers.specs.declared.readers.OptionSimpleDescriptor.the-variants as simple
-use Rattle.demands.specs.ReplyReadBack.{ReadsAs, ReadsAloneAs, Failing, cutHeader, someNode, nodeSaid, nodeRead, powerSaid, powerRead, listSaid, listRead, MatchSaid, found, failed, matchSaid, matchRead, simpleSaid, simpleRead, cutAddr, cutRsp, noDevices, cutSimple, RepliesReadBack}
+use Rattle.demands.specs.ReplyReadBack.{ReadsAs, ReadsAloneAs, Failing, cutHeader, someNode, nodeSaid, nodeRead, powerSaid, powerRead, listSaid, listRead, found, failed, matchRead, simpleSaid, simpleRead, cutAddr, cutRsp, noDevices, cutSimple, RepliesReadBack}
 use Rattle.demands.specs.TwoReaders.{maskOf, inBrief}
 use Rattle.demands.specs.ReadBack.{cutNode, cutPower, cutEndpoint}
 use Rattle.demands.proofs.Frames.{one-layout}

@@ -37,7 +37,6 @@ use Rattle.zdo_readers.specs.declared.readers.OptionPowerDescriptor.the-variant
 use Rattle.zdo_readers.specs.declared.readers.AddrReply.{AddrReply}
 use Rattle.zdo_readers.specs.declared.readers.OptionAssociated.{OptionAssociated}
 use Rattle.zdo_readers.specs.declared.readers.OptionAssociated.the-variants as associated
-use Rattle.zdo_readers.specs.declared.readers.StatusReply.{StatusReply}
 use Rattle.zdo_list_readers.specs.ListReaders.{listReplyIn, matchReplyIn, simpleReplyIn}
 use Rattle.zdo_list_readers.specs.declared.readers.ListReply.{ListReply}
 use Rattle.zdo_list_readers.specs.declared.readers.MatchReply.{MatchReply}

@@ -1,7 +1,7 @@
 -- `NodeReply::try_read` meets its contract: the header, and what follows by its status. Assumes nothing.
 use borrow.Author.Needs.{needs}
 use Rattle.zdo_readers.proofs.Headed.{described-refused, header-long, described-none, described-some}
-use Rattle.zdo_readers.specs.Readers.{describedIn, nodeReplyIn}
+use Rattle.zdo_readers.specs.Readers.{nodeReplyIn}
 use Rattle.zdo_readers.specs.Answers.{nodeReplySays}
 use Rattle.zdo_readers.proofs.readers.NodeReply.try_read.Statement.{statement}
 use Rattle.zdo_readers.proofs.readers.NodeReply.try_read.Tie as tie

@@ -1,7 +1,7 @@
 -- `PowerReply::try_read` meets its contract: the header, and what follows by its status. Assumes nothing.
 use borrow.Author.Needs.{needs}
 use Rattle.zdo_readers.proofs.Headed.{described-refused, header-long, described-none, described-some}
-use Rattle.zdo_readers.specs.Readers.{describedIn, powerReplyIn}
+use Rattle.zdo_readers.specs.Readers.{powerReplyIn}
 use Rattle.zdo_readers.specs.Answers.{powerReplySays}
 use Rattle.zdo_readers.proofs.readers.PowerReply.try_read.Statement.{statement}
 use Rattle.zdo_readers.proofs.readers.PowerReply.try_read.Tie as tie
