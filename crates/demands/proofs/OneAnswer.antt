@@ -27,7 +27,9 @@ use Rattle.zdo_requests.specs.declared.descriptor.SimpleDescReqRead.the-variant
 use Rattle.zdo_requests.specs.declared.descriptor.MatchDescReqRead.the-variants as matchReq
 use Rattle.zdo_requests.specs.declared.descriptor.BindReqRead.the-variants as bindReq
 use Rattle.zdo_requests.specs.declared.descriptor.MgmtLeaveReqRead.the-variants as leaveReq
-use Rattle.zdo_readers.specs.Answers.{headerSays, nodeDescRspSays, nodeReplySays, powerReplySays, addrReplySays, statusReplySays}
+use Rattle.zdo_readers.specs.Answers.{headerSays, nodeDescRspSays, revisionSays, nodeReplySays, powerReplySays, addrReplySays, statusReplySays}
+use Rattle.zdo_readers.specs.declared.descriptor.OptionStackRevision.{OptionStackRevision}
+use Rattle.zdo_readers.specs.declared.descriptor.OptionStackRevision.the-variants as revision
 use Rattle.zdo_readers.specs.declared.readers.ReplyHeaderRead.the-variants as headerReply
 use Rattle.zdo_readers.specs.declared.descriptor.NodeDescRspRead.the-variants as maskReply
 use Rattle.zdo_readers.specs.declared.readers.NodeReplyRead.the-variants as nodeReply
@@ -70,6 +72,16 @@ unfolding endpointSays
 endpoint-back (optional.Some e) = refl
 endpoint-back optional.None = refl
 
+-- the answer that says a revision, or none
+abbrev revisionFrom : Option ℕ → OptionStackRevision
+revisionFrom (some n) = revision.Some n
+revisionFrom none = revision.None
+
+revision-back : (r : OptionStackRevision) → revisionFrom (revisionSays r) ≡ r
+unfolding revisionSays
+revision-back (revision.Some n) = refl
+revision-back revision.None = refl
+
 one-matching : Determines matchingSays
 unfolding matchingSays
 one-matching =
@@ -96,6 +108,7 @@ one-answer =
       leaveReq = determined _ leaveReq.Request leaveReq.Refused (elim [ leaveReq.Request q ↦ refl | leaveReq.Refused why ↦ refused-back leaveReq.Refused why ]);
       headerReply = determined _ headerReply.Header headerReply.Refused (elim [ headerReply.Header r ↦ refl | headerReply.Refused why ↦ refused-back headerReply.Refused why ]);
       maskReply = determined _ maskReply.Reply maskReply.Refused (elim [ maskReply.Reply r ↦ refl | maskReply.Refused why ↦ refused-back maskReply.Refused why ]);
+      revision = λ a b e. sym (revision-back a) ∙ ap revisionFrom e ∙ revision-back b;
       nodeReply = determined _ nodeReply.Reply nodeReply.Refused (elim [ nodeReply.Reply r ↦ refl | nodeReply.Refused why ↦ refused-back nodeReply.Refused why ]);
       powerReply = determined _ powerReply.Reply powerReply.Refused (elim [ powerReply.Reply r ↦ refl | powerReply.Refused why ↦ refused-back powerReply.Refused why ]);
       addrReply = determined _ addrReply.Reply addrReply.Refused (elim [ addrReply.Reply r ↦ refl | addrReply.Refused why ↦ refused-back addrReply.Refused why ]);

@@ -18,7 +18,7 @@ use Rattle.zigbee_types.proofs.Fields.{read-byte}
 use Rattle.node_descriptor.specs.NodeDescriptor.{nodeWidths, nodeDescriptorIn}
 use Rattle.node_power_descriptor.specs.PowerDescriptor.{powerWidths, powerDescriptorIn, usable}
 use Rattle.simple_descriptor.specs.SimpleDescriptor.{simpleDescriptorIn}
-use Rattle.zdo_readers.specs.Readers.{headerWidths, headerIn, describedIn, nodeWith, nodeWithout, nodeReplyIn, powerWith, powerWithout, powerReplyIn, nodeDescRspIn, addrWidths, addrReplyIn, statusWidths, statusReplyIn}
+use Rattle.zdo_readers.specs.Readers.{headerWidths, headerIn, descriptorReplyIn, nodeWith, nodeWithout, nodeReplyIn, powerWith, powerWithout, powerReplyIn, nodeDescRspIn, addrWidths, addrReplyIn, statusWidths, statusReplyIn}
 use Rattle.zdo_readers.specs.declared.readers.ReplyHeader.{ReplyHeader}
 use Rattle.zdo_list_readers.specs.declared.readers.ListReply.{ListReply}
 use Rattle.zdo_list_readers.specs.ListReaders.{listBehind, listReplyIn, matchErrorWidths, matchReplyInAs, matchReplyIn, simpleWithin, simpleReplyIn}
@@ -154,8 +154,8 @@ module _ (reply : List ℕ) where
   refuse-described :
       {D R : Type 0} (descriptorIn : List ℕ → Outcome D) (with : ReplyHeader → D → R) (without : ReplyHeader → R) (n : ℕ) (over : Bool)
       → refusalOf (descriptorIn (drop 4 reply)) ≡ malformedIf (shorter (drop 4 reply) n || over)
-      → refusalOf (describedIn descriptorIn with without reply) ≡ malformedIf (shorter reply (cond (succeeds reply) (4 + n) 4) || (succeeds reply && over))
-  unfolding describedIn headerIn parsed size headerWidths fieldsAt
+      → refusalOf (descriptorReplyIn descriptorIn with without reply) ≡ malformedIf (shorter reply (cond (succeeds reply) (4 + n) 4) || (succeeds reply && over))
+  unfolding descriptorReplyIn headerIn parsed size headerWidths fieldsAt
   refuse-described descriptorIn with without n over h =
       rw (← shorter-where) (refuse-next 4 reply _ _ _ (λ _. rw byte-read (refuse-where (succeeds reply) _ _ _ (rw refuse-mapped h))))
 

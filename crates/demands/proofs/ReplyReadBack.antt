@@ -35,7 +35,7 @@ use Rattle.zdo_device.specs.declared.descriptor.EndpointDescriptor.{EndpointDes
 use Rattle.zdo_device.specs.declared.descriptor.DeviceDescriptorConfig.{DeviceDescriptorConfig}
 use Rattle.zdo_device_rsp.specs.TableReplies.{numbers, activeRspOf, activeEpRsp, simpleRspOf, simpleDescRsp}
 use Rattle.zdo_device_rsp.proofs.Described.{as-list}
-use Rattle.zdo_readers.specs.Readers.{headerWidths, headerIn, describedIn, nodeWith, nodeWithout, nodeReplyIn, nodeDescRspIn, powerWith, powerWithout, powerReplyIn, associatedIn, addrWidths, addrReplyIn, statusWidths, statusReplyIn}
+use Rattle.zdo_readers.specs.Readers.{headerWidths, headerIn, descriptorReplyIn, nodeWith, nodeWithout, nodeReplyIn, nodeDescRspIn, powerWith, powerWithout, powerReplyIn, associatedIn, addrWidths, addrReplyIn, statusWidths, statusReplyIn}
 use Rattle.zdo_readers.specs.declared.descriptor.OptionServerMask.{OptionServerMask}
 use Rattle.zdo_readers.specs.declared.descriptor.OptionServerMask.the-variants as mask
 use Rattle.zdo_readers.specs.declared.readers.ReplyHeader.{ReplyHeader}
@@ -85,9 +85,9 @@ module _
     described-back :
         (fs : List Field) (rest : List ℕ)
         → ((h : ReplyHeader) (d : D) → said (with h d) ≡ (h, some (fields d)))
-        → mapped said (describedIn descriptorIn with without (laid (header seq SUCCESS a ++ fs) ++ rest))
+        → mapped said (descriptorReplyIn descriptorIn with without (laid (header seq SUCCESS a ++ fs) ++ rest))
         ≡ mapped (λ c. (cutHeader seq SUCCESS a, some c)) (mapped fields (descriptorIn (laid fs ++ rest)))
-    unfolding describedIn andThen mapped cutHeader
+    unfolding descriptorReplyIn andThen mapped cutHeader
     described-back fs rest e =
         let there : drop 4 (laid (header seq SUCCESS a) ++ (laid fs ++ rest)) ≡ laid fs ++ rest =
         drop-at (laid (header seq SUCCESS a)) (laid fs ++ rest) 4 (header-long seq SUCCESS a) in
@@ -103,8 +103,8 @@ module _
     error-back :
         (status : ℕ) (rest : List ℕ)
         → Failing status
-        → mapped said (describedIn descriptorIn with without (laid (header seq status a) ++ rest)) ≡ answer (said (without (cutHeader seq status a)))
-    unfolding describedIn andThen mapped cutHeader
+        → mapped said (descriptorReplyIn descriptorIn with without (laid (header seq status a) ++ rest)) ≡ answer (said (without (cutHeader seq status a)))
+    unfolding descriptorReplyIn andThen mapped cutHeader
     error-back status rest other = rw (header-back, ne-eqb _ _ other)
 
 -- the server mask of a descriptor's fields, where there are any
@@ -241,7 +241,7 @@ module _ (seq : ℕ) (a : ShortAddress) where
       (λ rest.
       rw (second-back seq SUCCESS _ rest, list-places seq SUCCESS a xs rest few, there seq SUCCESS a xs rest few .entries)))
 
-match-error-back : (seq status : ℕ) → Failing status → ReadsAs (matchDescRspError seq status) matchRead (answer (failed (seq % 256) (status % 256)))
+match-error-back : (seq status : ℕ) → Failing status → ReadsAs (matchDescRspError seq status) matchRead (answer (failed (record { seq = seq % 256; status = status % 256 })))
 unfolding matchDescRspError matchReplyIn matchReplyInAs mapped matchErrorFields cut
 match-error-back seq status other =
     sent-back _ matchRead _

@@ -16,7 +16,7 @@ use Rattle.zigbee_types.specs.Addresses.{shortOf}
 use Rattle.zigbee_types.specs.Statuses.{SUCCESS}
 use Rattle.zigbee_types.proofs.Outcomes.{refused, granted, mapped-granted}
 use Rattle.node_descriptor.specs.NodeDescriptor.{nodeWidths, nodeDescriptorIn}
-use Rattle.zdo_readers.specs.Readers.{headerWidths, headerIn, describedIn, nodeWith, nodeWithout, nodeReplyIn, serverMaskIn, nodeDescRspIn, stackRevisionOf}
+use Rattle.zdo_readers.specs.Readers.{headerWidths, headerIn, descriptorReplyIn, nodeWith, nodeWithout, nodeReplyIn, serverMaskIn, nodeDescRspIn, stackRevisionOf}
 use Rattle.zdo_readers.specs.declared.descriptor.NodeDescRsp.{NodeDescRsp}
 use Rattle.zdo_readers.specs.declared.descriptor.OptionServerMask.{OptionServerMask}
 use Rattle.zdo_readers.specs.declared.readers.ReplyHeader.{ReplyHeader}
@@ -70,7 +70,7 @@ module _ (reply : List ℕ) where
     brief false e = cc e
 
 pub node-readers-agree : NodeReadersAgree
-unfolding nodeReplyIn nodeDescRspIn describedIn headerIn parsed needing
+unfolding nodeReplyIn nodeDescRspIn descriptorReplyIn headerIn parsed needing
 node-readers-agree reply r e =
     let field : ℕ → ℕ = fieldOf headerWidths reply in
     let h : ReplyHeader = record { seq = field 0; status = field 1; «nwk_addr_of_interest» = shortOf (field 2) } in

@@ -2,6 +2,7 @@
 -- definitions say stands on one side, and document 01's bytes and numbers, as literals, on the other.
 use Prim.Native.Nat.{ℕ}
 use mathlib.Core.List.{List, [], _∷_, _++_, map}
+use mathlib.Core.Option.{Option, none, some}
 use lib.ListN.{length, take, replicate}
 use Rattle.zigbee_types.specs.Outcome.{Outcome, answer, refusal, andThen, mapped, fitted, begunLength, begun}
 use Rattle.zigbee_types.specs.Layout.{laid}
@@ -10,8 +11,6 @@ use Rattle.node_power_descriptor.specs.PowerDescriptor.{powerDescriptor, powerD
 use Rattle.aps_binding_table.specs.Table.{emptyTable}
 use Rattle.zdo_replies.specs.Replies.{nodeDescRsp}
 use Rattle.zdo_readers.specs.Readers.{nodeDescRspIn, stackRevisionOf}
-use Rattle.zdo_readers.specs.declared.descriptor.OptionStackRevision.{OptionStackRevision}
-use Rattle.zdo_readers.specs.declared.descriptor.OptionStackRevision.the-variants.{Some, None}
 use Rattle.zdo_device_rsp.specs.TableReplies.{simpleDescRsp}
 use Rattle.zdo_dispatcher.specs.Host.{Asked}
 use Rattle.zdo_dispatcher.specs.Answers.{answered, run, runTable}
@@ -30,9 +29,9 @@ K1 =
     }
 
 -- a stack revision, where there is one
-abbrev pub revisions : OptionStackRevision → List ℕ
-revisions (Some r) = r ∷ []
-revisions None = []
+abbrev pub revisions : Option ℕ → List ℕ
+revisions (some r) = r ∷ []
+revisions none = []
 
 -- K2: its stack revision
 unfoldable pub K2 : Case

@@ -16,6 +16,7 @@ pub mod ReadBack
 pub mod ReplyReadBack
 pub mod ReadersRefuse
 pub mod TwoReaders
+pub mod Trailing
 pub mod OneAnswer
 pub mod Reached
 pub mod Order

@@ -15,7 +15,7 @@ use Rattle.aps_binding_table.specs.Table.{Leaves}
 use Rattle.aps_binding_table.specs.declared.binding.BindingTable.{BindingTable}
 use Rattle.aps_binding_table.specs.declared.binding.Linked.{Linked}
 use Rattle.zdo_requests.specs.Answers.{nwkAddrReqSays, ieeeAddrReqSays, addrOfInterestReqSays, addrOfInterestSays, simpleDescReqSays, matchDescReqSays, bindReqSays, mgmtLeaveReqSays}
-use Rattle.zdo_readers.specs.Answers.{headerSays, nodeDescRspSays, nodeReplySays, powerReplySays, addrReplySays, statusReplySays}
+use Rattle.zdo_readers.specs.Answers.{headerSays, nodeDescRspSays, revisionSays, nodeReplySays, powerReplySays, addrReplySays, statusReplySays}
 use Rattle.zdo_list_readers.specs.Answers.{listReplySays, matchReplySays, simpleReplySays}
 use Rattle.zdo_device.specs.Tables.{endpointSays}
 use Rattle.zdo_matching.specs.Answers.{matchingSays}
@@ -25,7 +25,7 @@ use Rattle.zdo_matching.specs.declared.descriptor.Matching.{Matching}
 abbrev pub Determines : {A B : Type 0} → (A → B) → Type 0
 Determines {A} says = (a b : A) → says a ≡ says b → a ≡ b
 
--- so it is with each enum that holds an answer or a refusal, and with a record or none; a writer's contract determines its answer and
+-- so it is with each enum that holds an answer or a refusal, and with those that hold a record or a number, or none; a writer's contract determines its answer and
 -- the buffer, so does matching's, and a bind's or an unbind's its answer and its table
 pub record OneAnswer : Type 0 where
   pub written : Determines writtenSays
@@ -44,6 +44,7 @@ pub record OneAnswer : Type 0 where
   pub leaveReq : Determines mgmtLeaveReqSays
   pub headerReply : Determines headerSays
   pub maskReply : Determines nodeDescRspSays
+  pub revision : Determines revisionSays
   pub nodeReply : Determines nodeReplySays
   pub powerReply : Determines powerReplySays
   pub addrReply : Determines addrReplySays

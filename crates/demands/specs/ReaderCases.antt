@@ -66,7 +66,7 @@ abbrev pub someMask : OptionServerMask → List ℕ
 someMask (mask.Some m) = m ∷ []
 someMask mask.None = []
 
--- a node reply and 16 bytes of it; one of another status; its mask at 14 bytes and at 13, and with another status; a power
+-- a node reply and 16 bytes of it; one of another status; its mask at 14 bytes, at 16 and at 13, and with another status; a power
 -- reply, and one of another status
 unfoldable pub ReadDescriptors : Case
 ReadDescriptors =
@@ -76,6 +76,7 @@ ReadDescriptors =
           ∷ mapped (λ r. maker (r .descriptor)) (nodeReplyIn (take 16 nodeReply))
           ∷ mapped (λ r. maker (r .descriptor)) (nodeReplyIn (0x07 ∷ 0x81 ∷ 0x34 ∷ 0x12 ∷ []))
           ∷ mapped (λ r. someMask (r .«server_mask»)) (nodeDescRspIn (take 14 nodeReply))
+          ∷ mapped (λ r. someMask (r .«server_mask»)) (nodeDescRspIn (take 16 nodeReply))
           ∷ mapped (λ r. someMask (r .«server_mask»)) (nodeDescRspIn (take 13 nodeReply))
           ∷ mapped (λ r. someMask (r .«server_mask»)) (nodeDescRspIn (0x07 ∷ 0x81 ∷ drop 2 nodeReply))
           ∷ mapped (λ r. powerBytes (r .descriptor)) (powerReplyIn (0x07 ∷ 0x00 ∷ 0x34 ∷ 0x12 ∷ 0x42 ∷ 0x84 ∷ []))
@@ -85,6 +86,7 @@ ReadDescriptors =
           answer (7 ∷ 0 ∷ 0x1234 ∷ 0xABCD ∷ [])
           ∷ refusal 3
           ∷ answer []
+          ∷ answer (0x2C00 ∷ [])
           ∷ answer (0x2C00 ∷ [])
           ∷ answer []
           ∷ answer []
@@ -100,15 +102,16 @@ places p = p .start ∷ p .count ∷ []
 -- of a match reply seq, address and list; of a failed one seq and status
 abbrev pub matchNumbers : MatchReply → List ℕ
 matchNumbers (Matched r) = r .header .seq ∷ r .header .«nwk_addr_of_interest» .0 ∷ places (r .list)
-matchNumbers (Failed seq status) = seq ∷ status ∷ []
+matchNumbers (Failed r) = r .seq ∷ r .status ∷ []
 
--- an active reply, whole and one short; a match reply, and one of another status, of three bytes and of two; a bind reply
+-- an active reply, whole, one short, and of another status; a match reply, and one of another status, of three bytes and of two; a bind reply
 unfoldable pub ReadLists : Case
 ReadLists =
     record {
       says =
           mapped (λ r. places (r .list)) (listReplyIn (0x07 ∷ 0x00 ∷ 0x34 ∷ 0x12 ∷ 0x02 ∷ 0x01 ∷ 0x02 ∷ []))
           ∷ mapped (λ r. places (r .list)) (listReplyIn (0x07 ∷ 0x00 ∷ 0x34 ∷ 0x12 ∷ 0x02 ∷ 0x01 ∷ []))
+          ∷ mapped (λ r. r .header .status ∷ r .header .«nwk_addr_of_interest» .0 ∷ places (r .list)) (listReplyIn (0x07 ∷ 0x83 ∷ 0x34 ∷ 0x12 ∷ 0x02 ∷ 0x01 ∷ 0x02 ∷ []))
           ∷ mapped matchNumbers (matchReplyIn (0x09 ∷ 0x00 ∷ 0x34 ∷ 0x12 ∷ 0x01 ∷ 0x01 ∷ []))
           ∷ mapped matchNumbers (matchReplyIn (0x09 ∷ 0x80 ∷ 0x05 ∷ []))
           ∷ mapped matchNumbers (matchReplyIn (0x09 ∷ 0x80 ∷ []))
@@ -117,6 +120,7 @@ ReadLists =
       expected =
           answer (5 ∷ 2 ∷ [])
           ∷ refusal 3
+          ∷ answer (0x83 ∷ 0x1234 ∷ 5 ∷ 2 ∷ [])
           ∷ answer (9 ∷ 0x1234 ∷ 5 ∷ 1 ∷ [])
           ∷ answer (9 ∷ 0x80 ∷ [])
           ∷ refusal 3
@@ -170,7 +174,7 @@ address status behind =
     mapped (λ r. r .seq ∷ r .status ∷ r .«ieee_addr» .0 ∷ r .«nwk_addr» .0 ∷ extension (r .associated))
     (addrReplyIn (0x07 ∷ status ∷ 0x08 ∷ 0x07 ∷ 0x06 ∷ 0x05 ∷ 0x04 ∷ 0x03 ∷ 0x02 ∷ 0x01 ∷ 0x34 ∷ 0x12 ∷ behind))
 
--- 12 bytes, 13, 14, 14 of another status, 18 and 19
+-- 12 bytes, 13, 14, 14 of another status, 18 and 19; 16 that tell five devices, and none
 unfoldable pub ReadAddresses : Case
 ReadAddresses =
     record {
@@ -181,6 +185,8 @@ ReadAddresses =
           ∷ address 0x80 (0x00 ∷ 0x00 ∷ [])
           ∷ address 0x00 (0x03 ∷ 0x01 ∷ 0x78 ∷ 0x56 ∷ 0x9A ∷ 0x57 ∷ [])
           ∷ address 0x00 (0x03 ∷ 0x01 ∷ 0x78 ∷ 0x56 ∷ 0x9A ∷ 0x57 ∷ 0x00 ∷ [])
+          ∷ address 0x00 (0x05 ∷ 0x00 ∷ 0x78 ∷ 0x56 ∷ [])
+          ∷ address 0x00 (0x00 ∷ 0x00 ∷ 0x78 ∷ 0x56 ∷ [])
           ∷ [];
       expected =
           answer (7 ∷ 0x00 ∷ 0x0102_0304_0506_0708 ∷ 0x1234 ∷ [])
@@ -189,6 +195,8 @@ ReadAddresses =
           ∷ answer (7 ∷ 0x80 ∷ 0x0102_0304_0506_0708 ∷ 0x1234 ∷ [])
           ∷ answer (7 ∷ 0x00 ∷ 0x0102_0304_0506_0708 ∷ 0x1234 ∷ 3 ∷ 1 ∷ 14 ∷ 2 ∷ [])
           ∷ answer (7 ∷ 0x00 ∷ 0x0102_0304_0506_0708 ∷ 0x1234 ∷ 3 ∷ 1 ∷ 14 ∷ 2 ∷ [])
+          ∷ answer (7 ∷ 0x00 ∷ 0x0102_0304_0506_0708 ∷ 0x1234 ∷ 5 ∷ 0 ∷ 14 ∷ 1 ∷ [])
+          ∷ answer (7 ∷ 0x00 ∷ 0x0102_0304_0506_0708 ∷ 0x1234 ∷ 0 ∷ 0 ∷ 14 ∷ 1 ∷ [])
           ∷ [];
     }
 

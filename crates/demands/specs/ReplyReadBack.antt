@@ -37,6 +37,7 @@ use Rattle.zdo_readers.specs.declared.readers.OptionPowerDescriptor.the-variant
 use Rattle.zdo_readers.specs.declared.readers.AddrReply.{AddrReply}
 use Rattle.zdo_readers.specs.declared.readers.OptionAssociated.{OptionAssociated}
 use Rattle.zdo_readers.specs.declared.readers.OptionAssociated.the-variants as associated
+use Rattle.zdo_readers.specs.declared.readers.StatusReply.{StatusReply}
 use Rattle.zdo_list_readers.specs.ListReaders.{listReplyIn, matchReplyIn, simpleReplyIn}
 use Rattle.zdo_list_readers.specs.declared.readers.ListReply.{ListReply}
 use Rattle.zdo_list_readers.specs.declared.readers.MatchReply.{MatchReply}
@@ -100,11 +101,11 @@ listRead reply = mapped (listSaid reply) (listReplyIn reply)
 -- a match reply: its header and its endpoints, or the sequence number and the status of an error
 pub data MatchSaid : Type 0 where
   found : ReplyHeader × List ℕ → MatchSaid
-  failed : ℕ → ℕ → MatchSaid
+  failed : StatusReply → MatchSaid
 
 abbrev pub matchSaid : List ℕ → MatchReply → MatchSaid
 matchSaid reply (match.Matched r) = found (listSaid reply r)
-matchSaid reply (match.Failed seq status) = failed seq status
+matchSaid reply (match.Failed r) = failed r
 
 abbrev pub matchRead : List ℕ → Outcome MatchSaid
 matchRead reply = mapped (matchSaid reply) (matchReplyIn reply)
@@ -173,7 +174,7 @@ pub record RepliesReadBack : Type 0 where
       (seq : ℕ) (a : ShortAddress) (xs : List ℕ)
       → length xs ≤ 255
       → ReadsAs (listRsp seq a xs) matchRead (answer (found (cutHeader seq SUCCESS a, map (λ x. x % 256) xs)))
-  pub matchError : (seq status : ℕ) → Failing status → ReadsAs (matchDescRspError seq status) matchRead (answer (failed (seq % 256) (status % 256)))
+  pub matchError : (seq status : ℕ) → Failing status → ReadsAs (matchDescRspError seq status) matchRead (answer (failed (record { seq = seq % 256; status = status % 256 })))
   pub simple :
       (seq : ℕ) (a : ShortAddress) (p : Pools) (d : DeviceDescriptorConfig) (n : ℕ)
       → ReadsAs (simpleDescRsp seq a p d n) simpleRead (answer (cutSimple seq a p d n))

@@ -1,8 +1,9 @@
 -- Two readers of one format: `parse_node_desc_rsp`, which looks for the server mask alone, and the reader of whole node replies. That
 -- they agree, as statements. A term of each stands in proofs/.
+use Prim.Native.Nat.{ℕ}
 use mathlib.Core.Path.{_≡_}
 use mathlib.Core.List.{List}
-use Prim.Native.Nat.{ℕ}
+use mathlib.Core.Option.{Option, none, some}
 use Rattle.zigbee_types.specs.Outcome.{answer, mapped}
 use Rattle.node_flags.specs.Flags.{stackRevision}
 use Rattle.node_descriptor.specs.NodeDescriptor.{nodeFields}
@@ -10,8 +11,6 @@ use Rattle.zdo_readers.specs.Readers.{nodeReplyIn, nodeDescRspIn, stackRevision
 use Rattle.zdo_readers.specs.declared.descriptor.NodeDescRsp.{NodeDescRsp}
 use Rattle.zdo_readers.specs.declared.descriptor.OptionServerMask.{OptionServerMask}
 use Rattle.zdo_readers.specs.declared.descriptor.OptionServerMask.the-variants as mask
-use Rattle.zdo_readers.specs.declared.descriptor.OptionStackRevision.{OptionStackRevision}
-use Rattle.zdo_readers.specs.declared.descriptor.OptionStackRevision.the-variants as revision
 use Rattle.zdo_readers.specs.declared.readers.NodeReply.{NodeReply}
 use Rattle.zdo_readers.specs.declared.readers.OptionNodeDescriptor.{OptionNodeDescriptor}
 use Rattle.zdo_readers.specs.declared.readers.OptionNodeDescriptor.the-variants as node
@@ -22,9 +21,9 @@ maskOf (node.Some d) = mask.Some (nodeFields d .«server_mask»)
 maskOf node.None = mask.None
 
 -- its stack revision, as `get_stack_compliance_revision` gives it
-abbrev pub revisionOf : OptionNodeDescriptor → OptionStackRevision
-revisionOf (node.Some d) = revision.Some (stackRevision (nodeFields d .«server_mask»))
-revisionOf node.None = revision.None
+abbrev pub revisionOf : OptionNodeDescriptor → Option ℕ
+revisionOf (node.Some d) = some (stackRevision (nodeFields d .«server_mask»))
+revisionOf node.None = none
 
 -- what a whole node reply says of sequence number, status, address and server mask
 unfoldable pub inBrief : NodeReply → NodeDescRsp

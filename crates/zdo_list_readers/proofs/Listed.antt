@@ -88,6 +88,6 @@ module _ (bytes : List ℕ) where
     match-list read ok t r = rw (← status, ok, ← r) t
 
     -- with another status the first two bytes, and nothing else
-    pub match-failed : (v ≡ SUCCESS → ⊥) → 3 ≤ length bytes → matchReplySays (match.Reply (Failed u v)) ≡ matchReplyIn bytes
+    pub match-failed : (v ≡ SUCCESS → ⊥) → 3 ≤ length bytes → matchReplySays (match.Reply (Failed (record { seq = u; status = v }))) ≡ matchReplyIn bytes
     unfolding matchReplySays matchReplyIn matchReplyInAs matchErrorWidths
     match-failed other l = rw (← status, ne-eqb _ _ other) (three-parse _ p q (read-byte bytes j) l refl)

@@ -39,7 +39,7 @@ matchErrorWidths = 1 ∷ 1 ∷ 1 ∷ []
 -- is the status SUCCESS: then it is read as an active reply; else in the 3-byte form
 unfoldable pub matchReplyInAs : Bool → List ℕ → Outcome MatchReply
 matchReplyInAs true reply = mapped Matched (listReplyIn reply)
-matchReplyInAs false reply = parsed matchErrorWidths (λ field. Failed (field 0) (field 1)) reply
+matchReplyInAs false reply = parsed matchErrorWidths (λ field. Failed (record { seq = field 0; status = field 1 })) reply
 
 -- 2.4.4.2.7: the status is byte 1; a reply that ends before it reads as SUCCESS, and is then too short
 unfoldable pub matchReplyIn : List ℕ → Outcome MatchReply

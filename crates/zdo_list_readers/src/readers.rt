@@ -4,6 +4,7 @@ use simple_descriptor::SimpleDescriptorFields;
 use simple_descriptor::SimpleDescriptorRead;
 use zdo_readers::readers::ReplyHeader;
 use zdo_readers::readers::ReplyHeaderRead;
+use zdo_readers::readers::StatusReply;
 use zdo_replies::descriptor::STATUS_SUCCESS;
 use zigbee_types::Places;
 use zigbee_types::Refusal;
@@ -65,7 +66,7 @@ impl ListReply {
 // A Match_Desc_rsp (2.4.4.2.7): with its list, or with another status and nothing else.
 pub enum MatchReply {
     Matched(ListReply),
-    Failed { seq: u8, status: u8 },
+    Failed(StatusReply),
 }
 
 pub enum MatchReplyRead {
@@ -87,10 +88,10 @@ impl MatchReply {
         if status.value == STATUS_SUCCESS {
             return MatchReply::matched(ListReply::try_read(reply));
         }
-        MatchReplyRead::Reply(MatchReply::Failed {
+        MatchReplyRead::Reply(MatchReply::Failed(StatusReply {
             seq: seq.value,
             status: status.value,
-        })
+        }))
     }
 
     // The reply that has this list; refused where the list was.

@@ -14,7 +14,7 @@ use Rattle.zigbee_types.specs.Refusals.{refusalNumber}
 use Rattle.zigbee_types.specs.Statuses.{SUCCESS}
 use Rattle.zigbee_types.specs.declared.Refusal.{Refusal}
 use Rattle.zigbee_types.proofs.Outcomes.{granted}
-use Rattle.zdo_readers.specs.Readers.{headerWidths, headerIn, describedIn}
+use Rattle.zdo_readers.specs.Readers.{headerWidths, headerIn, descriptorReplyIn}
 use Rattle.zdo_readers.specs.Answers.{headerSays}
 use Rattle.zdo_readers.specs.declared.readers.ReplyHeader.{ReplyHeader}
 use Rattle.zdo_readers.specs.declared.readers.ReplyHeaderRead.{ReplyHeaderRead}
@@ -30,8 +30,8 @@ module _ (bytes : List ℕ) (read : ReplyHeaderRead) (said : headerSays read ≡
   pub described-refused :
       {D R : Type 0} (descriptorIn : List ℕ → Outcome D) (some : ReplyHeader → D → R) (none : ReplyHeader → R) {why : Refusal}
       → read ≡ Refused why
-      → refusal (refusalNumber why) ≡ describedIn descriptorIn some none bytes
-  unfolding describedIn
+      → refusal (refusalNumber why) ≡ descriptorReplyIn descriptorIn some none bytes
+  unfolding descriptorReplyIn
   described-refused descriptorIn some none e = headed-refused _ e
 
   module _ {h : ReplyHeader} (e : read ≡ Header h) where
@@ -49,8 +49,8 @@ module _ (bytes : List ℕ) (read : ReplyHeaderRead) (said : headerSays read ≡
 
     module _ {D R : Type 0} (descriptorIn : List ℕ → Outcome D) (some : ReplyHeader → D → R) (none : ReplyHeader → R) where
       -- with another status there is no descriptor
-      pub described-none : {r : R} → (h .status ≡ SUCCESS → ⊥) → r ≡ none h → answer r ≡ describedIn descriptorIn some none bytes
-      unfolding describedIn
+      pub described-none : {r : R} → (h .status ≡ SUCCESS → ⊥) → r ≡ none h → answer r ≡ descriptorReplyIn descriptorIn some none bytes
+      unfolding descriptorReplyIn
       described-none other is = headed _ (rw (ne-eqb _ _ other, is))
 
       -- with SUCCESS it is what was read from byte 4 on
@@ -59,8 +59,8 @@ module _ (bytes : List ℕ) (read : ReplyHeaderRead) (said : headerSays read ≡
           → h .status ≡ SUCCESS
           → told ≡ mapped (some h) d
           → d ≡ descriptorIn (take (length bytes - 4) (drop 4 bytes))
-          → told ≡ describedIn descriptorIn some none bytes
-      unfolding describedIn
+          → told ≡ descriptorReplyIn descriptorIn some none bytes
+      unfolding descriptorReplyIn
       described-some ok t r =
           let whole : take (length bytes - 4) (drop 4 bytes) ≡ drop 4 bytes = take-all (length bytes - 4) (drop 4 bytes) (rw length-drop (omega arith)) in
           let yes : eqb (h .status) SUCCESS ≡ true = rw ok in

@@ -1,9 +1,13 @@
 -- What each reader's answer says: the reply, or document 01's number of the refusal.
+use Prim.Native.Nat.{ℕ}
+use mathlib.Core.Option.{Option, none, some}
 use Rattle.zigbee_types.specs.Outcome.{Outcome, answer, refusal}
 use Rattle.zigbee_types.specs.Refusals.{refusalNumber}
 use Rattle.zdo_readers.specs.declared.descriptor.NodeDescRsp.{NodeDescRsp}
 use Rattle.zdo_readers.specs.declared.descriptor.NodeDescRspRead.{NodeDescRspRead}
 use Rattle.zdo_readers.specs.declared.descriptor.NodeDescRspRead.the-variants as rsp
+use Rattle.zdo_readers.specs.declared.descriptor.OptionStackRevision.{OptionStackRevision}
+use Rattle.zdo_readers.specs.declared.descriptor.OptionStackRevision.the-variants as revision
 use Rattle.zdo_readers.specs.declared.readers.ReplyHeader.{ReplyHeader}
 use Rattle.zdo_readers.specs.declared.readers.ReplyHeaderRead.{ReplyHeaderRead}
 use Rattle.zdo_readers.specs.declared.readers.ReplyHeaderRead.the-variants as header
@@ -24,6 +28,11 @@ use Rattle.zdo_readers.specs.declared.readers.StatusReplyRead.the-varian
 unfoldable pub nodeDescRspSays : NodeDescRspRead → Outcome NodeDescRsp
 nodeDescRspSays (rsp.Reply r) = answer r
 nodeDescRspSays (rsp.Refused why) = refusal (refusalNumber why)
+
+-- of `stack_revision`: a number, or none
+unfoldable pub revisionSays : OptionStackRevision → Option ℕ
+revisionSays (revision.Some n) = some n
+revisionSays revision.None = none
 
 -- of `ReplyHeader::try_read`
 unfoldable pub headerSays : ReplyHeaderRead → Outcome ReplyHeader

@@ -1,9 +1,11 @@
 -- The readers of node, power, address and status replies, and of what most replies begin with (document 01, "Reply readers"). A
--- reply that is shorter than its layout needs is refusal 3. Bytes behind it are ignored, but for the list of an extended address
--- reply, which goes up to the reply's end.
+-- reply that is shorter than its layout needs is refusal 3. Bytes behind it are ignored, but where document 01 reads more if there is
+-- more: the server mask of `parse_node_desc_rsp` from 14 bytes on, and what an extended address reply adds, whose list goes up to the
+-- reply's end.
 use Prim.Native.Nat.{ℕ, _-_, _/_}
 use mathlib.Core.Bool.{Bool, true, false, _&&_, cond}
 use mathlib.Core.List.{List, [], _∷_}
+use mathlib.Core.Option.{Option, none, some}
 use lib.Dec.{eqb, leb}
 use lib.ListN.{length, drop}
 use Rattle.zigbee_types.specs.Outcome.{Outcome, answer, andThen, mapped}
@@ -19,8 +21,6 @@ use Rattle.node_power_descriptor.specs.declared.NodePowerDescriptor.{NodePowerD
 use Rattle.zdo_readers.specs.declared.descriptor.NodeDescRsp.{NodeDescRsp}
 use Rattle.zdo_readers.specs.declared.descriptor.OptionServerMask.{OptionServerMask}
 use Rattle.zdo_readers.specs.declared.descriptor.OptionServerMask.the-variants as mask
-use Rattle.zdo_readers.specs.declared.descriptor.OptionStackRevision.{OptionStackRevision}
-use Rattle.zdo_readers.specs.declared.descriptor.OptionStackRevision.the-variants as revision
 use Rattle.zdo_readers.specs.declared.readers.ReplyHeader.{ReplyHeader}
 use Rattle.zdo_readers.specs.declared.readers.NodeReply.{NodeReply}
 use Rattle.zdo_readers.specs.declared.readers.OptionNodeDescriptor.the-variants as node
@@ -42,9 +42,9 @@ headerIn = parsed headerWidths (λ field. record { seq = field 0; status = field
 -- ---- node and power
 
 -- node and power replies: with SUCCESS a descriptor stands from byte 4 on, and may be refused; with another status there is none
-unfoldable pub describedIn : {D R : Type 0} → (List ℕ → Outcome D) → (ReplyHeader → D → R) → (ReplyHeader → R) → List ℕ → Outcome R
-describedIn descriptorIn some none reply =
-    andThen (headerIn reply) (λ h. cond (eqb (h .status) SUCCESS) (mapped (some h) (descriptorIn (drop 4 reply))) (answer (none h)))
+unfoldable pub descriptorReplyIn : {D R : Type 0} → (List ℕ → Outcome D) → (ReplyHeader → D → R) → (ReplyHeader → R) → List ℕ → Outcome R
+descriptorReplyIn descriptorIn with without reply =
+    andThen (headerIn reply) (λ h. cond (eqb (h .status) SUCCESS) (mapped (with h) (descriptorIn (drop 4 reply))) (answer (without h)))
 
 -- a node reply with its descriptor
 abbrev pub nodeWith : ReplyHeader → NodeDescriptor → NodeReply
@@ -54,9 +54,9 @@ nodeWith h d = record { header = h; descriptor = node.Some d }
 abbrev pub nodeWithout : ReplyHeader → NodeReply
 nodeWithout h = record { header = h; descriptor = node.None }
 
--- 2.4.4.2.3
+-- 2.4.4.2.3. (One of SUCCESS that has its header and no whole descriptor is refused like one without a header; `headerIn` tells which.)
 unfoldable pub nodeReplyIn : List ℕ → Outcome NodeReply
-nodeReplyIn = describedIn nodeDescriptorIn nodeWith nodeWithout
+nodeReplyIn = descriptorReplyIn nodeDescriptorIn nodeWith nodeWithout
 
 -- a power reply with its descriptor
 abbrev pub powerWith : ReplyHeader → NodePowerDescriptor → PowerReply
@@ -68,7 +68,7 @@ powerWithout h = record { header = h; descriptor = power.None }
 
 -- 2.4.4.2.4
 unfoldable pub powerReplyIn : List ℕ → Outcome PowerReply
-powerReplyIn = describedIn powerDescriptorIn powerWith powerWithout
+powerReplyIn = descriptorReplyIn powerDescriptorIn powerWith powerWithout
 
 -- ---- the server mask alone
 
@@ -91,14 +91,14 @@ nodeDescRspIn reply =
     reply
 
 -- `stack_revision`: that of the server mask, where there is one
-unfoldable pub stackRevisionOf : OptionServerMask → OptionStackRevision
-stackRevisionOf (mask.Some m) = revision.Some (stackRevision m)
-stackRevisionOf mask.None = revision.None
+unfoldable pub stackRevisionOf : OptionServerMask → Option ℕ
+stackRevisionOf (mask.Some m) = some (stackRevision m)
+stackRevisionOf mask.None = none
 
 -- ---- addresses
 
--- is it extended: then it goes on with the number of devices and the index; their addresses stand from byte 14 on, two bytes
--- each, up to the reply's end
+-- is it extended: then it goes on with the number of devices and the index. Addresses stand from byte 14 on, two bytes each, up to the
+-- reply's end, whatever number it tells; a single last byte is ignored.
 unfoldable pub associatedIn : Bool → List ℕ → OptionAssociated
 associatedIn true reply =
     associated.Some

@@ -10,7 +10,7 @@ ghost use lib.Dec.{eqb, leb};
 ghost use lib.ListN.{length};
 ghost use Rattle.zigbee_types.specs.Statuses.{SUCCESS};
 ghost use Rattle.zdo_readers.specs.Readers.{serverMaskIn, nodeDescRspIn, stackRevisionOf};
-ghost use Rattle.zdo_readers.specs.Answers.{nodeDescRspSays};
+ghost use Rattle.zdo_readers.specs.Answers.{nodeDescRspSays, revisionSays};
 
 // A parsed Node_Desc_rsp (2.4.4.2.3).
 pub struct NodeDescRsp {
@@ -18,7 +18,7 @@ pub struct NodeDescRsp {
     pub seq: u8,
     pub status: u8,
     pub nwk_addr_of_interest: ShortAddress,
-    // Server mask of the responding node (2.3.2.3.10), absent unless the status is SUCCESS.
+    // Server mask of the responding node (2.3.2.3.10), absent unless the status is SUCCESS and the reply has 14 bytes.
     pub server_mask: OptionServerMask,
 }
 
@@ -44,7 +44,7 @@ impl NodeDescRsp {
     // Stack revision the responder complies with, taken from the upper seven bits of the server mask (2.3.2.3.10); `None` without
     // a mask.
     pub fn stack_revision(self) -> OptionStackRevision
-        ensures { λ r. ⌜ r ≡ stackRevisionOf (self .«server_mask») ⌝ }
+        ensures { λ r. ⌜ revisionSays r ≡ stackRevisionOf (self .«server_mask») ⌝ }
     {
         let server_mask = self.server_mask;
         match server_mask {
@@ -73,7 +73,7 @@ pub fn parse_node_desc_rsp(asdu: &[u8]) -> NodeDescRspRead
     })
 }
 
-// The server mask, which sits 8 octets into the node descriptor (2.3.2.3); absent unless the status is SUCCESS.
+// The server mask, which sits 8 octets into the node descriptor (2.3.2.3); absent unless the status is SUCCESS and it is there.
 fn server_mask(asdu: &[u8], status: u8) -> OptionServerMask
     ensures { λ r. ⌜ r ≡ serverMaskIn (eqb status SUCCESS && leb 14 (length (now (asdu .entry)))) (now (asdu .entry)) ⌝ }
 {

@@ -166,8 +166,8 @@ pub struct AddrReply {
     pub associated: OptionAssociated,
 }
 
-// What an extended address reply adds: how many devices are associated, the index asked for, and where the short addresses
-// from there on stand, two bytes each.
+// What an extended address reply adds: how many devices are associated, the index asked for, and where short addresses stand, two bytes
+// each. How many of these there are is told by the reply's end, and not by the first number.
 pub struct Associated {
     pub num_assoc_dev: u8,
     pub start_index: u8,
@@ -208,8 +208,8 @@ impl AddrReply {
     }
 }
 
-// What stands behind the two addresses, if the status is SUCCESS and there are two bytes more: NumAssocDev, StartIndex, and the
-// short addresses up to the end.
+// What stands behind the two addresses, if the status is SUCCESS and there are two bytes more: NumAssocDev, StartIndex, and short
+// addresses up to the end, a single last byte ignored.
 fn read_associated(reply: &[u8], status: u8) -> OptionAssociated
     ensures { λ r. ⌜ r ≡ associatedIn (eqb status SUCCESS && leb 14 (length (now (reply .entry)))) (now (reply .entry)) ⌝ }
 {
