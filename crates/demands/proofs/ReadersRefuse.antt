@@ -1,6 +1,6 @@
 -- Which replies the readers refuse: those with too few bytes, a power reply whose source is not usable, and a simple reply whose
 -- descriptor runs over its length. Assumes nothing.
-use Prim.Native.Nat.{ℕ, _+_, _*_, _/_, _%_, _-_, _≤_, _<_}
+use Prim.Native.Nat.{ℕ, _+_, _*_, _/_, _%_, _-_, _^_, _≤_, _<_}
 use native.Mathlib.Omega.{arith}
 use mathlib.Core.Path.{_≡_, refl, sym, ap}
 use mathlib.Core.Bool.{Bool, true, false, _||_, _&&_, not, cond, or-assoc, or-false, and-true, and-false}
@@ -8,15 +8,16 @@ use mathlib.Core.List.{List}
 use lib.Dec.{eqb, leb, ltb}
 use lib.ListN.{length, drop, length-drop}
 use lib.Seq.{length-take-le, getD-drop, getD-take}
-use borrow.Author.Tests.{ltb-true, ltb-false, leb-false, le-leb, lt-leb, lt-ltb}
+use borrow.Author.Tests.{eqb-true, eqb-false, ltb-true, ltb-false, leb-false, le-leb, lt-leb, lt-ltb}
 use Rattle.zigbee_types.specs.Outcome.{Outcome, answer, refusal, andThen, mapped, needing}
 use Rattle.zigbee_types.specs.Lists.{part}
-use Rattle.zigbee_types.specs.Bytes.{numberAt}
+use Rattle.zigbee_types.specs.Bytes.{bitAt, numberAt}
 use Rattle.zigbee_types.specs.Layout.{size, fieldsAt, parsed, counted, behind, listsIn}
 use Rattle.zigbee_types.specs.declared.Places.{Places}
 use Rattle.zigbee_types.proofs.Fields.{read-byte}
 use Rattle.node_descriptor.specs.NodeDescriptor.{nodeWidths, nodeDescriptorIn}
 use Rattle.node_power_descriptor.specs.PowerDescriptor.{powerWidths, powerDescriptorIn, usable}
+use Rattle.node_power_descriptor.proofs.Usable.{usable-sources}
 use Rattle.simple_descriptor.specs.SimpleDescriptor.{simpleDescriptorIn}
 use Rattle.zdo_readers.specs.Readers.{headerWidths, headerIn, descriptorReplyIn, nodeWith, nodeWithout, nodeReplyIn, powerWith, powerWithout, powerReplyIn, nodeDescRspIn, addrWidths, addrReplyIn, statusWidths, statusReplyIn}
 use Rattle.zdo_readers.specs.declared.readers.ReplyHeader.{ReplyHeader}
@@ -131,6 +132,32 @@ refuse-power bytes =
     let takes : Bool = usable (byteOf bytes 0 / 16) (byteOf bytes 1 % 16) in
     refuse-next 2 bytes _ _ _ (λ _. rw (byte-read, byte-read, ← and-true (not takes)) (refuse-else takes (refusal 3) _ true refl))
 
+-- a bit of the high half of a byte is a bit of the byte
+high-bit : (i b : ℕ) → b / 16 / 2 ^ i ≡ b / 2 ^ (4 + i) → bitAt i (b / 16) ≡ bitAt (4 + i) b
+unfolding bitAt
+high-bit i b e = rw e
+
+-- so a source is usable by its bit in the byte that has the available ones in its high half
+usable-bits : (b s : ℕ) → usable (b / 16) s ≡ ((eqb s 1 && bitAt 4 b) || ((eqb s 2 && bitAt 5 b) || (eqb s 4 && bitAt 6 b)))
+usable-bits b s = go (eqb s 1) (eqb s 2) (eqb s 4) refl refl refl
+  where
+    go :
+        (one two four : Bool)
+        → eqb s 1 ≡ one
+        → eqb s 2 ≡ two
+        → eqb s 4 ≡ four
+        → usable (b / 16) s ≡ ((eqb s 1 && bitAt 4 b) || ((eqb s 2 && bitAt 5 b) || (eqb s 4 && bitAt 6 b)))
+    go true two four e f g =
+        let bit : usable (b / 16) 1 ≡ bitAt 0 (b / 16) = cc (usable-sources .named (b / 16)) in
+        rw (eqb-true s 1 e, or-false, bit) (high-bit 0 b (omega arith))
+    go false true four e f g =
+        let bit : usable (b / 16) 2 ≡ bitAt 1 (b / 16) = cc (usable-sources .named (b / 16)) in
+        rw (eqb-true s 2 f, or-false, bit) (high-bit 1 b (omega arith))
+    go false false true e f g =
+        let bit : usable (b / 16) 4 ≡ bitAt 2 (b / 16) = cc (usable-sources .named (b / 16)) in
+        rw (eqb-true s 4 g, bit) (high-bit 2 b (omega arith))
+    go false false false e f g = rw (e, f, g) (usable-sources .others (b / 16) s (eqb-false s 1 e) (eqb-false s 2 f) (eqb-false s 4 g))
+
 -- where a simple descriptor of these bytes ends
 abbrev endOf : (ℕ → ℕ) → ℕ
 endOf f = 8 + 2 * f 6 + 2 * f (7 + 2 * f 6)
@@ -202,12 +229,13 @@ module _ (reply : List ℕ) where
       rw (place, byte-read) (refuse-else (eqb len 0) _ _ _ (rw (refuse-mapped, refuse-simple bytes, whole, same, second)))
 
 pub readers-refuse : ReadersRefuse
-unfolding nodeDescRspIn nodeReplyIn powerReplyIn matchReplyIn simpleReplyIn addrReplyIn statusReplyIn headerWidths addrWidths statusWidths size
+unfolding headerIn nodeDescRspIn nodeReplyIn powerReplyIn matchReplyIn simpleReplyIn addrReplyIn statusReplyIn headerWidths addrWidths statusWidths size
 readers-refuse =
     record {
+      header = λ reply. refuse-parsed headerWidths _ reply;
       mask = λ reply. refuse-parsed headerWidths _ reply;
       node = λ reply. rw (and-false, or-false) at (refuse-described reply nodeDescriptorIn nodeWith nodeWithout 13 false (rw or-false (refuse-node (drop 4 reply))));
-      power = λ reply. rw (getD-drop, getD-drop) at (refuse-described reply powerDescriptorIn powerWith powerWithout 2 _ (refuse-power (drop 4 reply)));
+      power = λ reply. rw (getD-drop, getD-drop, usable-bits) at (refuse-described reply powerDescriptorIn powerWith powerWithout 2 _ (refuse-power (drop 4 reply)));
       list = refuse-list;
       match = λ reply. rw byte-read (refuse-match reply (succeeds reply));
       simple = λ reply.
