@@ -1,24 +1,25 @@
 -- A reply that was written reads back, for each writer and its reader. From the laws of tables of fields, of lists and of descriptors.
 -- Assumes nothing.
-use Prim.Native.Nat.{ℕ, _+_, _*_, _%_, _≤_, min}
+use Prim.Native.Nat.{ℕ, _+_, _-_, _*_, _/_, _%_, _≤_, _<_, min}
 use native.Mathlib.Omega.{arith}
 use mathlib.Core.Path.{_≡_, refl, sym, ap}
 use mathlib.Core.Bool.{Bool, true, false, _&&_, cond}
-use mathlib.Core.List.{List, [], _∷_, _++_, map, append-assoc, append-nil}
+use mathlib.Core.List.{List, [], _∷_, _++_, map, map-map, append-assoc, append-nil}
 use mathlib.Core.Option.{Option, none, some}
 use lib.Dec.{eqb, leb}
-use lib.ListN.{length, take, drop, length-append, length-map, length-take}
+use lib.ListN.{length, take, drop, replicate, length-append, length-map, length-take}
 use lib.Seq.{take-at, drop-at}
-use borrow.Author.Tests.{ne-eqb, le-leb, leb-true}
+use borrow.Author.Tests.{ne-eqb, le-leb, lt-leb, leb-true}
 use Rattle.zigbee_types.specs.Outcome.{Outcome, answer, refusal, andThen, mapped, needing}
 use Rattle.zigbee_types.specs.Bytes.{le, number, numberAt}
-use Rattle.zigbee_types.specs.Layout.{Field, byte, laid, cut, listed}
+use Rattle.zigbee_types.specs.Layout.{Field, byte, laid, cut, listed, size, fieldsAt, entriesAt}
 use Rattle.zigbee_types.specs.Lists.{part, option}
-use Rattle.zigbee_types.specs.FieldLaws.{placesAt, ListAt}
+use Rattle.zigbee_types.specs.FieldLaws.{widths, placesAt, ListAt}
+use Rattle.zigbee_types.specs.Addresses.{short}
 use Rattle.zigbee_types.specs.Statuses.{SUCCESS, NOT-ACTIVE}
 use Rattle.zigbee_types.specs.declared.IeeeAddress.{IeeeAddress}
 use Rattle.zigbee_types.specs.declared.ShortAddress.{ShortAddress}
-use Rattle.zigbee_types.proofs.Layouts.{parses, counted-back, length-listed}
+use Rattle.zigbee_types.proofs.Layouts.{laid-counted, laid-back, parses, counted-back, length-listed}
 use Rattle.zigbee_types.proofs.Runs.{laid-append}
 use Rattle.zigbee_types.proofs.Outcomes.{Stands, granted, refused, mapped-granted, wrote-bytes, wrote-answer}
 use Rattle.node_descriptor.specs.NodeDescriptor.{nodeDescriptor, nodeDescriptorIn, nodeFields}
@@ -45,7 +46,7 @@ use Rattle.zdo_readers.specs.declared.readers.OptionNodeDescriptor.the-variants
 use Rattle.zdo_readers.specs.declared.readers.OptionAssociated.the-variants as associated
 use Rattle.zdo_list_readers.specs.ListReaders.{listBehind, listReplyIn, matchErrorWidths, matchReplyInAs, matchReplyIn, shifted, shiftedFields, simpleWithin, simpleReplyIn}
 use Rattle.zdo_list_readers.specs.declared.readers.OptionSimpleDescriptor.the-variants as simple
-use Rattle.demands.specs.ReplyReadBack.{ReadsAs, ReadsAloneAs, Failing, cutHeader, someNode, nodeSaid, nodeRead, powerSaid, powerRead, listSaid, listRead, found, failed, matchRead, simpleSaid, simpleRead, cutAddr, cutRsp, noDevices, cutSimple, RepliesReadBack}
+use Rattle.demands.specs.ReplyReadBack.{ReadsAs, ReadsAloneAs, Failing, cutHeader, someNode, nodeSaid, nodeRead, powerSaid, powerRead, listSaid, listRead, found, failed, matchRead, simpleSaid, simpleRead, addrRead, bare, cutAddr, cutRsp, noDevices, cutSimple, RepliesReadBack}
 use Rattle.demands.specs.TwoReaders.{maskOf, inBrief}
 use Rattle.demands.specs.ReadBack.{cutNode, cutPower, cutEndpoint}
 use Rattle.demands.proofs.Frames.{one-layout}
@@ -273,13 +274,13 @@ module _ (seq : ℕ) (a : ShortAddress) (e : Endpoint) (few : clusterCount e ≤
   unfolding header laid le
   front-long = refl
 
-  short : length bytes ≤ 255
-  short = omega (arith, simple-length e)
+  few-bytes : length bytes ≤ 255
+  few-bytes = omega (arith, simple-length e)
 
   -- the reply is a list of bytes, to look at
   replied : front ++ bytes ≡ laid (header seq SUCCESS a ++ listed 1 bytes)
   unfolding listRsp
-  replied = let same = as-list seq a (simpleDescriptor e) short in rw (← endpoints-listed bytes short) cc
+  replied = let same = as-list seq a (simpleDescriptor e) few-bytes in rw (← endpoints-listed bytes few-bytes) cc
 
   -- the descriptor within its length is read with its lists counted from the start of the reply
   descriptor-back :
@@ -297,7 +298,7 @@ module _ (seq : ℕ) (a : ShortAddress) (e : Endpoint) (few : clusterCount e ≤
   unfolding simpleReplyIn andThen simpleWithin mapped
   described-reply-back rest =
       let not-none : length bytes ≡ 0 → ⊥ = λ z. omega (arith, z, simple-length e) in
-      let listed-there = rw (← replied) at (list-places seq SUCCESS a bytes rest short) in
+      let listed-there = rw (← replied) at (list-places seq SUCCESS a bytes rest few-bytes) in
       rw (listed-there, ne-eqb _ _ not-none, part-back front bytes rest 5 (length bytes) front-long refl) (go (simpleDescriptorIn bytes) (descriptor-back rest))
     where
       go :
@@ -356,6 +357,10 @@ module _ (seq : ℕ) (a : ShortAddress) where
 
 -- ---- addresses
 
+addr-long : (seq status : ℕ) (long : IeeeAddress) (a : ShortAddress) → length (laid (addrHeader seq status long a)) ≡ 12
+unfolding addrHeader laid le
+addr-long seq status long a = refl
+
 module _ (seq status : ℕ) (long : IeeeAddress) (a : ShortAddress) where
   -- the fields in front, and what is read behind them
   addr-front :
@@ -369,12 +374,92 @@ module _ (seq status : ℕ) (long : IeeeAddress) (a : ShortAddress) where
   unfolding addrRspSingle associatedIn
   addr-error-back other = sent-back _ addrReplyIn _ (λ rest. rw (addr-front rest, ne-eqb _ _ other))
 
-addr-back :
-    (seq : ℕ) (long : IeeeAddress) (a : ShortAddress) (extended : Bool)
-    → ReadsAloneAs (addrRsp seq long a extended) addrReplyIn (answer (cutAddr seq SUCCESS long a (noDevices extended)))
-unfolding addrRsp addrRspSingle addrRspExtended addrHeader associatedIn noDevices laid le numberAt number
-addr-back seq long a false before after told w = rw (sent (wrote-bytes w)) (addr-front seq SUCCESS long a [])
-addr-back seq long a true before after told w = rw (sent (wrote-bytes w)) (addr-front seq SUCCESS long a (0 ∷ 0 ∷ []))
+-- short addresses as fields: two bytes each
+shorts-widths : (xs : List ShortAddress) → widths (map short xs) ≡ replicate (length xs) 2
+shorts-widths [] = refl
+shorts-widths (x ∷ xs) = rw (shorts-widths xs)
+
+shorts-size : (xs : List ShortAddress) → size (widths (map short xs)) ≡ 2 * length xs
+unfolding size
+shorts-size [] = refl
+shorts-size (x ∷ xs) = omega (arith, shorts-size xs)
+
+shorts-cut : (xs : List ShortAddress) → map cut (map short xs) ≡ map (λ x. x .0 % 65536) xs
+unfolding cut
+shorts-cut xs = map-map cut short xs
+
+module _ (seq : ℕ) (long : IeeeAddress) (a : ShortAddress) where
+  -- twelve bytes and at most one more are single
+  single-back :
+      (rest : List ℕ) → length rest ≤ 1 → addrReplyIn (laid (addrHeader seq SUCCESS long a) ++ rest) ≡ answer (cutAddr seq SUCCESS long a associated.None)
+  unfolding associatedIn
+  single-back rest few =
+      let under : length (laid (addrHeader seq SUCCESS long a) ++ rest) < 14 = rw (length-append, addr-long) (omega arith) in
+      rw (addr-front seq SUCCESS long a rest, lt-leb _ _ under)
+
+  -- two fields more, and addresses behind them
+  module _ (n start : ℕ) (xs : List ShortAddress) (rest : List ℕ) where
+    abbrev added : List Field
+    added = byte n ∷ byte start ∷ map short xs
+
+    abbrev whole : List ℕ
+    whole = laid (addrHeader seq SUCCESS long a ++ added) ++ rest
+
+    -- behind the fields in front
+    behind-front : laid (addrHeader seq SUCCESS long a) ++ (laid added ++ rest) ≡ whole
+    behind-front = rw (laid-append, append-assoc)
+
+    whole-long : length whole ≡ 14 + 2 * length xs + length rest
+    unfolding size
+    whole-long = rw (length-append, laid-append, length-append, addr-long, laid-counted) (omega (arith, shorts-size xs))
+
+    added-there : fieldsAt (1 ∷ 1 ∷ replicate (length xs) 2) whole 12 ≡ n % 256 ∷ start % 256 ∷ map (λ x. x .0 % 65536) xs
+    unfolding cut
+    added-there = rw (addr-long, ← laid-append, shorts-widths, shorts-cut) at (laid-back (laid (addrHeader seq SUCCESS long a)) rest added)
+
+    devices-back : entriesAt 2 whole (record { start = 14; count = length xs }) ≡ map (λ x. x .0 % 65536) xs
+    unfolding entriesAt fieldsAt
+    devices-back = cc added-there
+
+    extended-back :
+        length rest ≤ 1
+        → addrReplyIn whole
+        ≡ answer
+        (cutAddr seq SUCCESS long a
+        (associated.Some (record { «num_assoc_dev» = n % 256; «start_index» = start % 256; devices = record { start = 14; count = length xs } })))
+    unfolding associatedIn fieldsAt
+    extended-back few =
+        let first : numberAt 1 whole 12 ≡ n % 256 = cc added-there in
+        let second : numberAt 1 whole 13 ≡ start % 256 = cc added-there in
+        let count : (length whole - 14) / 2 ≡ length xs = omega (arith, whole-long) in
+        let room : 14 ≤ length whole = omega (arith, whole-long) in
+        let front = rw behind-front at (addr-front seq SUCCESS long a (laid added ++ rest)) in
+        rw (front, le-leb _ _ room, first, second, count)
+
+  addr-back : (extended : Bool) → ReadsAloneAs (addrRsp seq long a extended) addrReplyIn (answer (cutAddr seq SUCCESS long a (noDevices extended)))
+  unfolding addrRsp addrRspSingle addrRspExtended noDevices
+  addr-back false before after rest told few w = rw (sent (wrote-bytes w)) (single-back rest few)
+  addr-back true before after rest told few w = rw (sent (wrote-bytes w)) (extended-back 0 0 [] rest few)
+
+  addresses-back :
+      (extended : Bool)
+      → ReadsAs (addrRsp seq long a extended) (λ reply. mapped bare (addrReplyIn reply)) (answer (cutAddr seq SUCCESS long a associated.None))
+  unfolding addrRsp addrRspSingle addrRspExtended mapped cutAddr
+  addresses-back false = sent-back _ (λ reply. mapped bare (addrReplyIn reply)) _ (λ rest. rw (addr-front seq SUCCESS long a rest))
+  addresses-back true =
+      sent-back _ (λ reply. mapped bare (addrReplyIn reply)) _
+      (λ rest. rw (← behind-front 0 0 [] rest, addr-front seq SUCCESS long a (laid (added 0 0 [] rest) ++ rest)))
+
+  children-back :
+      (start : ℕ) (xs : List ShortAddress)
+      → ReadsAloneAs (addrRspExtended seq long a start xs) addrRead
+      (answer (
+        cutAddr seq SUCCESS long a associated.None,
+        some (record { «num_assoc_dev» = length xs % 256; «start_index» = start % 256; devices = map (λ x. x .0 % 65536) (drop start xs) }),
+      ))
+  unfolding addrRspExtended mapped cutAddr
+  children-back start xs before after rest told few w =
+      rw (sent (wrote-bytes w), extended-back (length xs) start (drop start xs) rest few, devices-back (length xs) start (drop start xs) rest)
 
 -- ---- all of them
 
@@ -394,6 +479,8 @@ replies-read-back =
       simple = simple-reply-back;
       simpleError = λ seq status a. simple-error-back seq a status;
       address = addr-back;
+      addresses = addresses-back;
+      children = children-back;
       addressError = addr-error-back;
       status = status-reply-back;
     }

@@ -5,7 +5,7 @@ use mathlib.Core.Path.{_≡_}
 use mathlib.Core.Bool.{Bool, true, false, cond}
 use mathlib.Core.List.{List, [], _++_, map}
 use mathlib.Core.Option.{Option, none, some}
-use lib.ListN.{length, take}
+use lib.ListN.{length, take, drop}
 use Rattle.zigbee_types.specs.Outcome.{Outcome, answer, refusal, mapped, Wrote}
 use Rattle.zigbee_types.specs.Layout.{entriesAt}
 use Rattle.zigbee_types.specs.Lists.{option}
@@ -19,7 +19,7 @@ use Rattle.power_names.specs.Names.{sourceBits}
 use Rattle.node_power_descriptor.specs.PowerDescriptor.{powerFields, usable}
 use Rattle.node_power_descriptor.specs.declared.descriptor.PowerDescriptorConfig.{PowerDescriptorConfig}
 use Rattle.simple_descriptor.specs.SimpleDescriptor.{Endpoint, simpleFields}
-use Rattle.zdo_replies.specs.Replies.{nodeDescRsp, powerDescRsp, descriptorRspError, listRsp, emptyRsp, matchDescRspError, addrRspSingle, addrRsp, statusRsp}
+use Rattle.zdo_replies.specs.Replies.{nodeDescRsp, powerDescRsp, descriptorRspError, listRsp, emptyRsp, matchDescRspError, addrRspSingle, addrRspExtended, addrRsp, statusRsp}
 use Rattle.zdo_device.specs.Tables.{Pools, used, endpointRecord, endpointOf}
 use Rattle.zdo_device.specs.declared.descriptor.DeviceDescriptorConfig.{DeviceDescriptorConfig}
 use Rattle.zdo_device_rsp.specs.TableReplies.{numbers, activeEpRsp, simpleDescRsp}
@@ -53,9 +53,10 @@ abbrev pub ReadsAs : {R : Type 0} → Outcome (List ℕ) → (List ℕ → Outco
 ReadsAs o read r =
     (before after rest : List ℕ) (told : ℕ) → Wrote o before (answer told) after → read (take told after ++ rest) ≡ r
 
--- the same, with nothing behind them
+-- the same, with at most one byte behind them
 abbrev pub ReadsAloneAs : {R : Type 0} → Outcome (List ℕ) → (List ℕ → Outcome R) → Outcome R → Type 0
-ReadsAloneAs o read r = (before after : List ℕ) (told : ℕ) → Wrote o before (answer told) after → read (take told after) ≡ r
+ReadsAloneAs o read r =
+    (before after rest : List ℕ) (told : ℕ) → length rest ≤ 1 → Wrote o before (answer told) after → read (take told after ++ rest) ≡ r
 
 -- the premise of an error form: its status, as it is written, is not SUCCESS
 abbrev pub Failing : ℕ → Type 0
@@ -122,6 +123,28 @@ simpleSaid reply r = (r .header, someSimple reply (r .descriptor))
 abbrev pub simpleRead : List ℕ → Outcome (ReplyHeader × Option Endpoint)
 simpleRead reply = mapped (simpleSaid reply) (simpleReplyIn reply)
 
+-- what an extended address reply adds: two numbers, and the addresses, taken from the place that the reader gives
+pub record DevicesSaid : Type 0 where
+  pub «num_assoc_dev» : ℕ
+  pub «start_index» : ℕ
+  pub devices : List ℕ
+
+abbrev pub someDevices : List ℕ → OptionAssociated → Option DevicesSaid
+someDevices reply (associated.Some e) =
+    some (record { «num_assoc_dev» = e .«num_assoc_dev»; «start_index» = e .«start_index»; devices = entriesAt 2 reply (e .devices) })
+someDevices reply associated.None = none
+
+-- an address reply without what it adds
+abbrev pub bare : AddrReply → AddrReply
+bare r = record { seq = r .seq; status = r .status; «ieee_addr» = r .«ieee_addr»; «nwk_addr» = r .«nwk_addr»; associated = associated.None }
+
+-- an address reply: its fields, and what it adds
+abbrev pub addrSaid : List ℕ → AddrReply → AddrReply × Option DevicesSaid
+addrSaid reply r = (bare r, someDevices reply (r .associated))
+
+abbrev pub addrRead : List ℕ → Outcome (AddrReply × Option DevicesSaid)
+addrRead reply = mapped (addrSaid reply) (addrReplyIn reply)
+
 -- ---- what is to be read
 
 -- an address reply's fields, cut, with what an extended one adds
@@ -151,39 +174,67 @@ cutSimple seq a p d n =
 
 -- ---- the writers
 
--- each writer's reply is read back, a node reply by both its readers. Document 01's premises: the source of a power descriptor is usable (else the reader refuses it), a
--- list has at most 255 entries, and an error's status is another than SUCCESS. Active and simple errors do not need the last. An address
--- reply of SUCCESS is read alone, since two bytes behind it would make it extended.
+-- each writer's reply is read back, a node reply by both its readers. Document 01's premises: the source of a power descriptor is
+-- usable (else the reader refuses it), a list has at most 255 entries, and an error's status is another than SUCCESS. Active and simple
+-- errors do not need the last. With two bytes or more behind it a single address reply reads as extended, and an extended one's list
+-- goes on into them, so these are read with at most one; the addresses are read whatever stands behind.
 pub record RepliesReadBack : Type 0 where
+  -- `node_desc_rsp`
   pub node : (seq : ℕ) (a : ShortAddress) (n : NodeDescriptorConfig) → ReadsAs (nodeDescRsp seq a n) nodeRead (answer (cutHeader seq SUCCESS a, some (cutNode n)))
+  -- `descriptor_rsp_error`
   pub nodeError : (seq status : ℕ) (a : ShortAddress) → Failing status → ReadsAs (descriptorRspError seq status a) nodeRead (answer (cutHeader seq status a, none))
+  -- `node_desc_rsp`, by `parse_node_desc_rsp`
   pub serverMask :
       (seq : ℕ) (a : ShortAddress) (n : NodeDescriptorConfig)
       → ReadsAs (nodeDescRsp seq a n) nodeDescRspIn (answer (cutRsp seq SUCCESS a (mask.Some (n .«server_mask» % 65536))))
+  -- `descriptor_rsp_error`, by `parse_node_desc_rsp`
   pub serverMaskError : (seq status : ℕ) (a : ShortAddress) → Failing status → ReadsAs (descriptorRspError seq status a) nodeDescRspIn (answer (cutRsp seq status a mask.None))
+  -- `power_desc_rsp`
   pub power :
       (seq : ℕ) (a : ShortAddress) (p : PowerDescriptorConfig)
       → ReadsAs (powerDescRsp seq a p) powerRead
       (cond (usable (p .«available_power_sources» % 16) (sourceBits (p .«current_power_source»))) (answer (cutHeader seq SUCCESS a, some (cutPower p))) (refusal 3))
+  -- `descriptor_rsp_error`
   pub powerError : (seq status : ℕ) (a : ShortAddress) → Failing status → ReadsAs (descriptorRspError seq status a) powerRead (answer (cutHeader seq status a, none))
+  -- `active_ep_rsp`
   pub active :
       (seq : ℕ) (a : ShortAddress) (d : DeviceDescriptorConfig)
       → ReadsAs (activeEpRsp seq a d) listRead (answer (cutHeader seq SUCCESS a, map (λ x. x % 256) (numbers (used d))))
+  -- `active_ep_rsp_error`
   pub activeError : (seq status : ℕ) (a : ShortAddress) → ReadsAs (emptyRsp seq status a) listRead (answer (cutHeader seq status a, []))
+  -- `match_desc_rsp`
   pub match :
       (seq : ℕ) (a : ShortAddress) (xs : List ℕ)
       → length xs ≤ 255
       → ReadsAs (listRsp seq a xs) matchRead (answer (found (cutHeader seq SUCCESS a, map (λ x. x % 256) xs)))
+  -- `match_desc_rsp_error`
   pub matchError : (seq status : ℕ) → Failing status → ReadsAs (matchDescRspError seq status) matchRead (answer (failed (record { seq = seq % 256; status = status % 256 })))
+  -- `simple_desc_rsp`
   pub simple :
       (seq : ℕ) (a : ShortAddress) (p : Pools) (d : DeviceDescriptorConfig) (n : ℕ)
       → ReadsAs (simpleDescRsp seq a p d n) simpleRead (answer (cutSimple seq a p d n))
+  -- `simple_desc_rsp_error`
   pub simpleError : (seq status : ℕ) (a : ShortAddress) → ReadsAs (emptyRsp seq status a) simpleRead (answer (cutHeader seq status a, none))
+  -- `addr_rsp`
   pub address :
       (seq : ℕ) (long : IeeeAddress) (a : ShortAddress) (extended : Bool)
       → ReadsAloneAs (addrRsp seq long a extended) addrReplyIn (answer (cutAddr seq SUCCESS long a (noDevices extended)))
+  -- `addr_rsp`, whatever stands behind
+  pub addresses :
+      (seq : ℕ) (long : IeeeAddress) (a : ShortAddress) (extended : Bool)
+      → ReadsAs (addrRsp seq long a extended) (λ reply. mapped bare (addrReplyIn reply)) (answer (cutAddr seq SUCCESS long a associated.None))
+  -- an extended reply with children, which document 02 writes
+  pub children :
+      (seq : ℕ) (long : IeeeAddress) (a : ShortAddress) (start : ℕ) (xs : List ShortAddress)
+      → ReadsAloneAs (addrRspExtended seq long a start xs) addrRead
+      (answer (
+        cutAddr seq SUCCESS long a associated.None,
+        some (record { «num_assoc_dev» = length xs % 256; «start_index» = start % 256; devices = map (λ x. x .0 % 65536) (drop start xs) }),
+      ))
+  -- `addr_rsp_error`
   pub addressError :
       (seq status : ℕ) (long : IeeeAddress) (a : ShortAddress)
       → Failing status
       → ReadsAs (addrRspSingle seq status long a) addrReplyIn (answer (cutAddr seq status long a associated.None))
+  -- `bind_rsp` and `mgmt_leave_rsp`
   pub status : (seq status : ℕ) → ReadsAs (statusRsp seq status) statusReplyIn (answer (record { seq = seq % 256; status = status % 256 }))
