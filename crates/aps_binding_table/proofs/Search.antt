@@ -9,9 +9,10 @@ use native.Mathlib.Numerals.{add-one}
 use native.Mathlib.Omega.{arith}
 use lib.Dec.{ltb, leb·suc-suc}
 use lib.ListN.{length, getD, take, drop, drop-of-length-le}
-use lib.Seq.{drop-cons, getD-take, length-take-le}
+use lib.Seq.{length-take-le}
 use borrow.Author.Tests.{lt-ltb}
 use Rattle.zigbee_types.specs.Lists.{any}
+use Rattle.zigbee_types.proofs.Elements.{front-next}
 use Rattle.aps_binding.specs.Entry.{same}
 use Rattle.aps_binding_table.specs.Held.{holds, position, without}
 use Rattle.aps_binding_table.specs.Table.{held}
@@ -38,7 +39,7 @@ module _ {b : Binding} {t : BindingTable} {i : ℕ} (p : Passed b t i) where
     unfolding held
     here =
         let l : length (take (t .count) (t .entries)) ≡ t .count = length-take-le (t .count) (t .entries) (p .fits) in
-        rw (drop-cons (take (t .count) (t .entries)) i d (omega arith), getD-take (t .count) (t .entries) i d h, add-one)
+        front-next (t .count) (t .entries) i d (omega arith)
 
     -- is the one
     pub passed-here : {r : Bool} → r ≡ same b (getD (t .entries) i d) → r ≡ true → i ≡ position b (held t)

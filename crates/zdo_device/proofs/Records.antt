@@ -7,9 +7,10 @@ use mathlib.Core.Bool.{Bool, true, false, _&&_, not, and-eq-true-iff}
 use mathlib.Core.List.{[], _∷_, _++_}
 use lib.Dec.{eqb, leb}
 use lib.ListN.{length, getD, take, drop, drop-of-length-le, length-take}
-use lib.Seq.{drop-cons, take-suc, getD-take}
+use lib.Seq.{take-suc, getD-take}
 use borrow.Author.Tests.{eq-eqb, ne-eqb, leb-true, le-leb}
 use Rattle.zigbee_types.specs.Lists.{all, find}
+use Rattle.zigbee_types.proofs.Elements.{front-next}
 use Rattle.zigbee_types.proofs.Scans.{all-left, all-here, all-next, all-end, find-here, find-next, find-end, find-all, said-no, said-yes}
 use Rattle.zdo_device.specs.Tables.{Pools, used, endpointRecord, endpointSays, recordFits, goodSizes, goodRecords, goodDevice}
 use Rattle.zdo_device.specs.declared.descriptor.EndpointDescriptor.{EndpointDescriptor}
@@ -28,9 +29,7 @@ module _ (d : DeviceDescriptorConfig) where
     pub used-next :
         (z : EndpointDescriptor) → i < length (used d) → drop i (used d) ≡ getD (d .endpoints) i z ∷ drop (i + 1) (used d)
     unfolding used
-    used-next z h =
-        let inside : i < d .«endpoint_count» = omega (arith, rw length-take at h) in
-        rw (drop-cons (take (d .«endpoint_count») (d .endpoints)) i z h, getD-take (d .«endpoint_count») (d .endpoints) i z inside, add-one)
+    used-next z h = front-next (d .«endpoint_count») (d .endpoints) i z h
 
     -- one more than the first i
     pub used-done :

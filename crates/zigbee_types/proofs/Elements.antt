@@ -1,12 +1,14 @@
--- Tests of a list with one more element, a list of one element many times, the length of an array of structs, and what is made of
--- the element at a place. Assumes nothing.
-use Prim.Native.Nat.{ℕ, zero, suc, _-_, _<_}
+-- Tests of a list with one more element, a list of one element many times, the next of the first elements, the length of an array of
+-- structs, and what is made of the element at a place. Assumes nothing.
+use Prim.Native.Nat.{ℕ, zero, suc, _+_, _-_, _<_}
 use native.Mathlib.Nat.{le-of-suc-le-suc, not-suc-le-zero}
+use native.Mathlib.Numerals.{add-one}
 use native.Mathlib.Omega.{arith}
 use mathlib.Core.Path.{_≡_, refl}
 use mathlib.Core.Bool.{Bool, _||_, _&&_, or-false, or-assoc, and-true, and-assoc}
 use mathlib.Core.List.{List, [], _∷_, _++_, map}
-use lib.ListN.{length, getD, drop, replicate, length-map}
+use lib.ListN.{length, getD, take, drop, replicate, length-map, length-take}
+use lib.Seq.{drop-cons, getD-take}
 use Rattle.zigbee_types.specs.Lists.{any, all}
 
 module _ {A : Type 0} where
@@ -29,6 +31,13 @@ module _ {A : Type 0} where
   drop-replicate (suc n) (suc m) a =
       let rest : suc m - suc n ≡ m - n = omega arith in
       rw rest (drop-replicate n m a)
+
+  -- of the first n elements, the next one and those behind it
+  pub front-next :
+      (n : ℕ) (xs : List A) (i : ℕ) (z : A) → i < length (take n xs) → drop i (take n xs) ≡ getD xs i z ∷ drop (i + 1) (take n xs)
+  front-next n xs i z h =
+      let inside : i < n = omega (arith, rw length-take at h) in
+      rw (drop-cons (take n xs) i z h, getD-take n xs i z inside, add-one)
 
 -- an array of structs in a struct has as many elements as its type says
 pub length-mapped : (X Y : Type 0) (f : X → Y) (xs : List X) (n : ℕ) → length (map f xs) ≡ n → length xs ≡ n
