@@ -37,7 +37,7 @@ one-layout =
 
 module _ (seq : ℕ) (a : ShortAddress) (e : Endpoint) (few : clusterCount e ≤ 28) where
   -- the reply is its header, the length, and the descriptor
-  pub described : describedRsp seq a e ≡ answer (laid (header seq SUCCESS a ++ byte (length (laid (simpleDescriptor e))) ∷ []) ++ laid (simpleDescriptor e))
+  described : describedRsp seq a e ≡ answer (laid (header seq SUCCESS a ++ byte (length (laid (simpleDescriptor e))) ∷ []) ++ laid (simpleDescriptor e))
   unfolding describedRsp simpleWritten andThen
   described = rw (le-leb _ _ few)
 

@@ -88,6 +88,10 @@ power-reads-back p before after told w = rw (wrote-bytes w .left) (power-back p 
 
 -- ---- simple
 
+-- four bits of a version are the same, cut to a byte and again
+pub version-cut : {v : ℕ} → v % 16 % 256 % 16 ≡ v % 16
+version-cut = omega arith
+
 module _ (e : Endpoint) where
   -- the first fields
   pub simple-front : (rest : List ℕ) → fieldsAt simpleWidths (laid (simpleDescriptor e) ++ rest) 0 ≡ map cut (simpleHeader e)
@@ -114,9 +118,8 @@ module _ (e : Endpoint) where
         → mapped (simpleFields (laid (simpleDescriptor e) ++ rest)) (simpleDescriptorIn (laid (simpleDescriptor e) ++ rest)) ≡ answer (cutEndpoint e)
     unfolding mapped simpleHeader cut simpleOf simpleDescriptorIn simpleFields cutEndpoint
     simple-back rest =
-        let version : e .«device_version» % 16 % 256 % 16 ≡ e .«device_version» % 16 = omega arith in
         let lists = simple-lists [] rest in
-        rw (lists .places, simple-front rest, lists .first, lists .second, version)
+        rw (lists .places, simple-front rest, lists .first, lists .second, version-cut)
 
 pub simple-reads-back : SimpleReadsBack
 unfolding simpleWritten

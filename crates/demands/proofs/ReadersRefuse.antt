@@ -61,7 +61,7 @@ byte-read bytes at = sym (read-byte bytes at .told)
 -- ---- outcomes
 
 module _ {A : Type 0} where
-  -- an answer that is given on is the same
+  -- handing an answer on changes nothing
   then-answer : (o : Outcome A) → andThen o answer ≡ o
   unfolding andThen
   then-answer (answer a) = refl

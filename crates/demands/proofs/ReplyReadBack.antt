@@ -46,12 +46,12 @@ use Rattle.zdo_readers.specs.declared.readers.OptionNodeDescriptor.the-variants
 use Rattle.zdo_readers.specs.declared.readers.OptionAssociated.the-variants as associated
 use Rattle.zdo_list_readers.specs.ListReaders.{listBehind, listReplyIn, matchErrorWidths, matchReplyInAs, matchReplyIn, shifted, shiftedFields, simpleWithin, simpleReplyIn}
 use Rattle.zdo_list_readers.specs.declared.readers.OptionSimpleDescriptor.the-variants as simple
-use Rattle.demands.specs.ReplyReadBack.{ReadsAs, ReadsAloneAs, Failing, cutHeader, someNode, nodeSaid, nodeRead, powerSaid, powerRead, listSaid, listRead, found, failed, matchRead, simpleSaid, simpleRead, addrRead, bare, cutAddr, cutRsp, noDevices, cutSimple, RepliesReadBack}
-use Rattle.demands.specs.TwoReaders.{maskOf, inBrief}
+use Rattle.demands.specs.ReplyReadBack.{ReadsAs, ReadsAloneAs, Failing, cutHeader, someNode, nodeSaid, nodeRead, powerSaid, powerRead, listSaid, listRead, found, failed, matchRead, simpleSaid, simpleRead, addrRead, bare, cutAddr, noDevices, cutSimple, RepliesReadBack}
+use Rattle.demands.specs.TwoReaders.{maskOf, rspOf, inBrief}
 use Rattle.demands.specs.ReadBack.{cutNode, cutPower, cutEndpoint}
 use Rattle.demands.proofs.Frames.{one-layout}
 use Rattle.demands.proofs.TwoReaders.{node-readers-agree}
-use Rattle.demands.proofs.ReadBack.{node-back, power-back, simple-front, simple-lists}
+use Rattle.demands.proofs.ReadBack.{node-back, power-back, version-cut, simple-front, simple-lists}
 
 -- ---- what was sent
 
@@ -122,7 +122,7 @@ mask-read :
     (reply : List ℕ) (h : ReplyHeader) (o : Option NodeDescriptorConfig)
     → nodeRead reply ≡ answer (h, o)
     → nodeDescRspIn reply
-    ≡ answer (record { seq = h .seq; status = h .status; «nwk_addr_of_interest» = h .«nwk_addr_of_interest»; «server_mask» = maskFrom o })
+    ≡ answer (rspOf h (maskFrom o))
 unfolding mapped inBrief
 mask-read reply h o e = go (nodeReplyIn reply) refl e
   where
@@ -131,7 +131,7 @@ mask-read reply h o e = go (nodeReplyIn reply) refl e
         → nodeReplyIn reply ≡ q
         → mapped nodeSaid q ≡ answer (h, o)
         → nodeDescRspIn reply
-        ≡ answer (record { seq = h .seq; status = h .status; «nwk_addr_of_interest» = h .«nwk_addr_of_interest»; «server_mask» = maskFrom o })
+        ≡ answer (rspOf h (maskFrom o))
     go (answer r) is said =
         let same : nodeSaid r ≡ (h, o) = cc said in
         let header-same : r .header ≡ h = ap (λ (x : ReplyHeader × Option NodeDescriptorConfig). x .0) same in
@@ -153,12 +153,11 @@ module _ (seq : ℕ) (a : ShortAddress) where
 
   mask-back :
       (n : NodeDescriptorConfig)
-      → ReadsAs (nodeDescRsp seq a n) nodeDescRspIn (answer (cutRsp seq SUCCESS a (mask.Some (n .«server_mask» % 65536))))
-  unfolding cutHeader cutNode cutRsp
+      → ReadsAs (nodeDescRsp seq a n) nodeDescRspIn (answer (rspOf (cutHeader seq SUCCESS a) (mask.Some (n .«server_mask» % 65536))))
+  unfolding cutNode
   mask-back n before after rest told w = mask-read (take told after ++ rest) _ _ (node-reply-back n before after rest told w)
 
-  mask-error-back : (status : ℕ) → Failing status → ReadsAs (descriptorRspError seq status a) nodeDescRspIn (answer (cutRsp seq status a mask.None))
-  unfolding cutHeader cutRsp
+  mask-error-back : (status : ℕ) → Failing status → ReadsAs (descriptorRspError seq status a) nodeDescRspIn (answer (rspOf (cutHeader seq status a) mask.None))
   mask-error-back status other before after rest told w =
       mask-read (take told after ++ rest) _ _ (node-error-back status other before after rest told w)
 
@@ -208,12 +207,12 @@ module _ (seq status : ℕ) (a : ShortAddress) (xs rest : List ℕ) (few : lengt
 
 -- ---- active and match
 
--- records in use are no more than their count
+-- the records in use are at most 255
 used-few : (d : DeviceDescriptorConfig) → d .«endpoint_count» ≤ 32 → length (numbers (used d)) ≤ 255
 unfolding numbers used
 used-few d h = rw (length-map, length-take) (omega arith)
 
--- behind a byte, the next
+-- the second byte
 second-back : (seq status : ℕ) (fs : List Field) (rest : List ℕ) → numberAt 1 (laid (byte seq ∷ byte status ∷ fs) ++ rest) 1 ≡ status % 256
 unfolding laid le numberAt number
 second-back seq status fs rest = omega arith
@@ -277,7 +276,7 @@ module _ (seq : ℕ) (a : ShortAddress) (e : Endpoint) (few : clusterCount e ≤
   few-bytes : length bytes ≤ 255
   few-bytes = omega (arith, simple-length e)
 
-  -- the reply is a list of bytes, to look at
+  -- the reply is, byte for byte, that of a list of bytes
   replied : front ++ bytes ≡ laid (header seq SUCCESS a ++ listed 1 bytes)
   unfolding listRsp
   replied = let same = as-list seq a (simpleDescriptor e) few-bytes in rw (← endpoints-listed bytes few-bytes) cc
@@ -288,11 +287,10 @@ module _ (seq : ℕ) (a : ShortAddress) (e : Endpoint) (few : clusterCount e ≤
       → mapped (λ d. simpleFields (front ++ bytes ++ rest) (shiftedFields 5 d)) (simpleDescriptorIn bytes) ≡ answer (cutEndpoint e)
   unfolding mapped simpleHeader cut simpleOf simpleDescriptorIn simpleFields cutEndpoint shiftedFields shifted
   descriptor-back rest =
-      let version : e .«device_version» % 16 % 256 % 16 ≡ e .«device_version» % 16 = omega arith in
       let own = rw append-nil at (simple-lists e few [] []) in
       let whole = rw front-long at (simple-lists e few front rest) in
       let place : 5 + (6 + 1 + 2 * length (e .«input_clusters») + 1) ≡ 11 + 1 + 2 * length (e .«input_clusters») + 1 = omega arith in
-      rw (own .places, rw append-nil at (simple-front e []), place, whole .first, whole .second, version)
+      rw (own .places, rw append-nil at (simple-front e []), place, whole .first, whole .second, version-cut)
 
   described-reply-back : (rest : List ℕ) → simpleRead (front ++ bytes ++ rest) ≡ answer (cutHeader seq SUCCESS a, some (cutEndpoint e))
   unfolding simpleReplyIn andThen simpleWithin mapped
@@ -474,7 +472,7 @@ replies-read-back =
       powerError = λ seq status a. power-error-back seq a status;
       active = active-back;
       activeError = λ seq status a. active-error-back seq a status;
-      match = match-back;
+      match = λ seq a xs few. match-back seq a xs (omega arith);
       matchError = match-error-back;
       simple = simple-reply-back;
       simpleError = λ seq status a. simple-error-back seq a status;

@@ -17,13 +17,11 @@ use Rattle.zigbee_types.specs.Statuses.{SUCCESS}
 use Rattle.zigbee_types.proofs.Outcomes.{refused, granted, mapped-granted}
 use Rattle.node_descriptor.specs.NodeDescriptor.{nodeWidths, nodeDescriptorIn}
 use Rattle.zdo_readers.specs.Readers.{headerWidths, headerIn, descriptorReplyIn, nodeWith, nodeWithout, nodeReplyIn, serverMaskIn, nodeDescRspIn, stackRevisionOf}
-use Rattle.zdo_readers.specs.declared.descriptor.NodeDescRsp.{NodeDescRsp}
-use Rattle.zdo_readers.specs.declared.descriptor.OptionServerMask.{OptionServerMask}
 use Rattle.zdo_readers.specs.declared.readers.ReplyHeader.{ReplyHeader}
 use Rattle.zdo_readers.specs.declared.readers.NodeReply.{NodeReply}
 use Rattle.zdo_readers.specs.declared.readers.OptionNodeDescriptor.{OptionNodeDescriptor}
 use Rattle.zdo_readers.specs.declared.readers.OptionNodeDescriptor.the-variants as node
-use Rattle.demands.specs.TwoReaders.{maskOf, revisionOf, inBrief, NodeReadersAgree, RevisionsAgree}
+use Rattle.demands.specs.TwoReaders.{maskOf, revisionOf, rspOf, inBrief, NodeReadersAgree, RevisionsAgree}
 
 -- an answer that needed bytes, and what came next: the bytes are there, and it came
 needed :
@@ -41,10 +39,6 @@ needed n bytes a next {b} e = go (leb n (length bytes)) refl
 numberAt-drop : (k n : ℕ) (bytes : List ℕ) (at : ℕ) → numberAt k (drop n bytes) at ≡ numberAt k bytes (n + at)
 unfolding numberAt
 numberAt-drop k n bytes at = rw drop-drop
-
--- a reply in brief: what its header says, and a server mask
-abbrev rspOf : ReplyHeader → OptionServerMask → NodeDescRsp
-rspOf h m = record { seq = h .seq; status = h .status; «nwk_addr_of_interest» = h .«nwk_addr_of_interest»; «server_mask» = m }
 
 module _ (reply : List ℕ) where
   -- field 6 of a descriptor behind the header is what stands at byte 12

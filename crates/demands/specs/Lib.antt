@@ -13,9 +13,9 @@ pub mod ReaderCases
 pub mod Claim
 pub mod Frames
 pub mod ReadBack
+pub mod TwoReaders
 pub mod ReplyReadBack
 pub mod ReadersRefuse
-pub mod TwoReaders
 pub mod Trailing
 pub mod OneAnswer
 pub mod Reached

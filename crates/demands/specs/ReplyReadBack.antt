@@ -24,8 +24,6 @@ use Rattle.zdo_device.specs.Tables.{Pools, used, endpointRecord, endpointOf}
 use Rattle.zdo_device.specs.declared.descriptor.DeviceDescriptorConfig.{DeviceDescriptorConfig}
 use Rattle.zdo_device_rsp.specs.TableReplies.{numbers, activeEpRsp, simpleDescRsp}
 use Rattle.zdo_readers.specs.Readers.{nodeReplyIn, nodeDescRspIn, powerReplyIn, addrReplyIn, statusReplyIn}
-use Rattle.zdo_readers.specs.declared.descriptor.NodeDescRsp.{NodeDescRsp}
-use Rattle.zdo_readers.specs.declared.descriptor.OptionServerMask.{OptionServerMask}
 use Rattle.zdo_readers.specs.declared.descriptor.OptionServerMask.the-variants as mask
 use Rattle.zdo_readers.specs.declared.readers.ReplyHeader.{ReplyHeader}
 use Rattle.zdo_readers.specs.declared.readers.NodeReply.{NodeReply}
@@ -46,6 +44,7 @@ use Rattle.zdo_list_readers.specs.declared.readers.SimpleReply.{SimpleReply}
 use Rattle.zdo_list_readers.specs.declared.readers.OptionSimpleDescriptor.{OptionSimpleDescriptor}
 use Rattle.zdo_list_readers.specs.declared.readers.OptionSimpleDescriptor.the-variants as simple
 use Rattle.demands.specs.ReadBack.{cutNode, cutPower, cutEndpoint}
+use Rattle.demands.specs.TwoReaders.{rspOf}
 
 -- what was written by a writer that comes to o is read as r: as many bytes of the buffer as the writer told, with any bytes behind
 -- them
@@ -158,10 +157,6 @@ cutAddr seq status long a o =
       associated = o;
     }
 
--- what `parse_node_desc_rsp` is to give: sequence number, status and address, cut, and a server mask
-unfoldable pub cutRsp : ℕ → ℕ → ShortAddress → OptionServerMask → NodeDescRsp
-cutRsp seq status a m = record { seq = seq % 256; status = status % 256; «nwk_addr_of_interest» = shortOf (a .0 % 65536); «server_mask» = m }
-
 -- of a device without children an extended reply has two zeros, and behind them no list
 unfoldable pub noDevices : Bool → OptionAssociated
 noDevices true = associated.Some (record { «num_assoc_dev» = 0; «start_index» = 0; devices = record { start = 14; count = 0 } })
@@ -186,9 +181,9 @@ pub record RepliesReadBack : Type 0 where
   -- `node_desc_rsp`, by `parse_node_desc_rsp`
   pub serverMask :
       (seq : ℕ) (a : ShortAddress) (n : NodeDescriptorConfig)
-      → ReadsAs (nodeDescRsp seq a n) nodeDescRspIn (answer (cutRsp seq SUCCESS a (mask.Some (n .«server_mask» % 65536))))
+      → ReadsAs (nodeDescRsp seq a n) nodeDescRspIn (answer (rspOf (cutHeader seq SUCCESS a) (mask.Some (n .«server_mask» % 65536))))
   -- `descriptor_rsp_error`, by `parse_node_desc_rsp`
-  pub serverMaskError : (seq status : ℕ) (a : ShortAddress) → Failing status → ReadsAs (descriptorRspError seq status a) nodeDescRspIn (answer (cutRsp seq status a mask.None))
+  pub serverMaskError : (seq status : ℕ) (a : ShortAddress) → Failing status → ReadsAs (descriptorRspError seq status a) nodeDescRspIn (answer (rspOf (cutHeader seq status a) mask.None))
   -- `power_desc_rsp`
   pub power :
       (seq : ℕ) (a : ShortAddress) (p : PowerDescriptorConfig)

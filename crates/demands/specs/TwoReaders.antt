@@ -11,6 +11,7 @@ use Rattle.zdo_readers.specs.Readers.{nodeReplyIn, nodeDescRspIn, stackRevision
 use Rattle.zdo_readers.specs.declared.descriptor.NodeDescRsp.{NodeDescRsp}
 use Rattle.zdo_readers.specs.declared.descriptor.OptionServerMask.{OptionServerMask}
 use Rattle.zdo_readers.specs.declared.descriptor.OptionServerMask.the-variants as mask
+use Rattle.zdo_readers.specs.declared.readers.ReplyHeader.{ReplyHeader}
 use Rattle.zdo_readers.specs.declared.readers.NodeReply.{NodeReply}
 use Rattle.zdo_readers.specs.declared.readers.OptionNodeDescriptor.{OptionNodeDescriptor}
 use Rattle.zdo_readers.specs.declared.readers.OptionNodeDescriptor.the-variants as node
@@ -25,15 +26,13 @@ abbrev pub revisionOf : OptionNodeDescriptor → Option ℕ
 revisionOf (node.Some d) = some (stackRevision (nodeFields d .«server_mask»))
 revisionOf node.None = none
 
+-- a reply in brief: what its header says, and a server mask
+abbrev pub rspOf : ReplyHeader → OptionServerMask → NodeDescRsp
+rspOf h m = record { seq = h .seq; status = h .status; «nwk_addr_of_interest» = h .«nwk_addr_of_interest»; «server_mask» = m }
+
 -- what a whole node reply says of sequence number, status, address and server mask
 unfoldable pub inBrief : NodeReply → NodeDescRsp
-inBrief r =
-    record {
-      seq = r .header .seq;
-      status = r .header .status;
-      «nwk_addr_of_interest» = r .header .«nwk_addr_of_interest»;
-      «server_mask» = maskOf (r .descriptor);
-    }
+inBrief r = rspOf (r .header) (maskOf (r .descriptor))
 
 -- wherever the reader of whole replies reads, the other reads the same; so wherever both read, they agree
 abbrev pub NodeReadersAgree : Type 0

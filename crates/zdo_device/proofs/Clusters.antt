@@ -1,11 +1,10 @@
 -- A record's parts of the two pools, and the part that an endpoint number has. Assumes nothing.
-use Prim.Native.Nat.{ℕ, _+_, _-_, _≤_}
-use native.Mathlib.Omega.{arith}
+use Prim.Native.Nat.{ℕ, _+_, _≤_}
 use mathlib.Core.Path.{_≡_}
 use mathlib.Core.Bool.{Bool, true, false, not, and-eq-true-iff}
 use mathlib.Core.List.{List, []}
 use lib.Dec.{leb}
-use lib.ListN.{length, take, drop}
+use lib.ListN.{length}
 use borrow.Author.Tests.{leb-true}
 use Rattle.zigbee_types.specs.Lists.{part, option}
 use Rattle.zigbee_types.proofs.Scans.{said-no, said-yes}
@@ -16,10 +15,6 @@ use Rattle.zdo_device.specs.declared.descriptor.OptionEndpoint.{OptionEn
 use Rattle.zdo_device.specs.declared.descriptor.OptionEndpoint.the-variants.{Some, None}
 use Rattle.zdo_device.specs.declared.descriptor.Side.{Side}
 use Rattle.zdo_device.specs.declared.descriptor.Side.the-variants.{Input, Output}
-
--- a part that ends n behind its start has n elements
-pub part-is : {A : Type 0} (xs : List A) (start end n : ℕ) → end ≡ start + n → take (end - start) (drop start xs) ≡ part start n xs
-part-is xs start end n e = let long : end - start ≡ n = omega arith in rw long
 
 module _ (p : Pools) (e : EndpointDescriptor) where
   -- a record that fits ends within its pools

@@ -43,9 +43,9 @@ module _ (h : ReplyHeader) (bytes : List ℕ) where
 
     -- otherwise it stands behind its count
     pub list-whole :
-        n + v ≤ length bytes → listReplySays (list.Reply (record { header = h; list = record { start = n; count = v } })) ≡ listBehind h bytes
+        {s : ℕ} → s ≡ n → n + v ≤ length bytes → listReplySays (list.Reply (record { header = h; list = record { start = s; count = v } })) ≡ listBehind h bytes
     unfolding listReplySays listBehind needing
-    list-whole l = let r = list-counted 1 p in rw (← r .told, ← r .moved, le-leb (n + 1 * v) (length bytes) (omega arith))
+    list-whole e l = let r = list-counted 1 p in rw (e, ← r .told, ← r .moved, le-leb (n + 1 * v) (length bytes) (omega arith))
 
 -- a list that was read is whole
 module _ (bytes : List ℕ) (l : ListReply) where
@@ -64,7 +64,7 @@ module _ (bytes : List ℕ) (l : ListReply) where
 -- ---- match
 
 module _ (bytes : List ℕ) where
-  -- refused in either form where there are less than three bytes
+  -- refused in either form where there are fewer than three bytes
   pub match-short : length bytes < 3 → matchReplySays (match.Refused Malformed) ≡ matchReplyIn bytes
   unfolding matchReplySays matchReplyIn matchReplyInAs mapped listReplyIn andThen headerIn size headerWidths matchErrorWidths
   match-short l = go (eqb (numberAt 1 bytes 1) SUCCESS)

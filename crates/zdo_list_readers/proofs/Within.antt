@@ -14,6 +14,7 @@ use Rattle.zigbee_types.specs.declared.Places.{Places}
 use Rattle.zigbee_types.specs.declared.ClusterLists.{ClusterLists}
 use Rattle.zigbee_types.specs.declared.Refusal.{Refusal}
 use Rattle.zigbee_types.proofs.Outcomes.{granted, mapped-granted}
+use Rattle.zigbee_types.proofs.Parts.{part-is}
 use Rattle.simple_descriptor.specs.SimpleDescriptor.{simpleWidths, simpleOf, simpleDescriptorIn, simpleSays}
 use Rattle.simple_descriptor.specs.declared.SimpleDescriptorFields.{SimpleDescriptorFields}
 use Rattle.simple_descriptor.specs.declared.SimpleDescriptorRead.{SimpleDescriptorRead}
@@ -40,7 +41,7 @@ module _ (l : ListReply) (bytes : List ℕ) where
       (to : end ≡ l .list .start + l .list .count)
     where
       there : simpleSays read ≡ simpleDescriptorIn (part (l .list .start) (l .list .count) bytes)
-      there = let n : end - l .list .start ≡ l .list .count = omega arith in rw n at said
+      there = rw (part-is bytes (l .list .start) end (l .list .count) to) at said
 
       -- otherwise what was read, moved to its place
       pub within-read :

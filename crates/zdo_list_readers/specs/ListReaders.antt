@@ -47,11 +47,11 @@ matchReplyIn reply = matchReplyInAs (eqb (numberAt 1 reply 1) SUCCESS) reply
 
 -- ---- simple
 
--- a list in bytes that begin at a place of the reply, counted from the start of the reply
+-- a list whose place was counted from place `at` of the reply on, counted from the start of the reply
 unfoldable pub shifted : ℕ → Places → Places
 shifted at p = record { start = at + p .start; count = p .count }
 
--- a descriptor in such bytes
+-- a descriptor with both its lists so
 unfoldable pub shiftedFields : ℕ → SimpleDescriptorFields → SimpleDescriptorFields
 shiftedFields at d =
     record {

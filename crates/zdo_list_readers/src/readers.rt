@@ -63,7 +63,7 @@ impl ListReply {
 
 // ---- match
 
-// A Match_Desc_rsp (2.4.4.2.7): with its list, or with another status and nothing else.
+// A Match_Desc_rsp (2.4.4.2.7): with SUCCESS its list; with another status the sequence number and that status alone.
 pub enum MatchReply {
     Matched(ListReply),
     Failed(StatusReply),
@@ -160,7 +160,7 @@ impl SimpleReply {
     }
 }
 
-// A list in bytes that begin at a place of the reply, counted from the start of the reply.
+// A list whose place was counted from place `at` of the reply on, counted from the start of the reply.
 fn shifted(at: usize, list: Places) -> Places
     requires { ⌜ at + list .start < 2 ^ 63 ⌝ }
     ensures { λ r. ⌜ r ≡ shifted at list ⌝ }
@@ -171,7 +171,7 @@ fn shifted(at: usize, list: Places) -> Places
     }
 }
 
-// A descriptor in such bytes.
+// A descriptor with both its lists so.
 fn shifted_fields(at: usize, fields: SimpleDescriptorFields) -> SimpleDescriptorFields
     requires { ⌜ (at + fields .«input_clusters» .start < 2 ^ 63) × (at + fields .«output_clusters» .start < 2 ^ 63) ⌝ }
     ensures { λ r. ⌜ r ≡ shiftedFields at fields ⌝ }

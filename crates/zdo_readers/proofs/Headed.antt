@@ -4,8 +4,7 @@ use native.Mathlib.Omega.{arith}
 use mathlib.Core.Path.{_≡_, sym}
 use mathlib.Core.Bool.{true}
 use mathlib.Core.List.{List}
-use lib.ListN.{length, take, drop, length-drop}
-use lib.Seq.{take-all}
+use lib.ListN.{length, take, drop}
 use lib.Dec.{eqb, leb}
 use borrow.Author.Tests.{ne-eqb, leb-true}
 use Rattle.zigbee_types.specs.Outcome.{Outcome, answer, refusal, andThen, mapped, needing}
@@ -14,6 +13,7 @@ use Rattle.zigbee_types.specs.Refusals.{refusalNumber}
 use Rattle.zigbee_types.specs.Statuses.{SUCCESS}
 use Rattle.zigbee_types.specs.declared.Refusal.{Refusal}
 use Rattle.zigbee_types.proofs.Outcomes.{granted}
+use Rattle.zigbee_types.proofs.Parts.{part-whole}
 use Rattle.zdo_readers.specs.Readers.{headerWidths, headerIn, descriptorReplyIn}
 use Rattle.zdo_readers.specs.Answers.{headerSays}
 use Rattle.zdo_readers.specs.declared.readers.ReplyHeader.{ReplyHeader}
@@ -41,11 +41,12 @@ module _ (bytes : List ℕ) (read : ReplyHeaderRead) (said : headerSays read ≡
     headed next t = rw (← said, e) t
 
     -- and has four bytes
-    pub header-long : 4 ≤ length bytes
+    pub header-long : {n : ℕ} → n ≤ 4 → n ≤ length bytes
     unfolding headerSays headerIn headerWidths parsed size needing
-    header-long =
+    header-long few =
         let (held, _) = granted (leb 4 (length bytes)) _ 3 (rw e at (sym said)) in
-        leb-true 4 (length bytes) held
+        let long = leb-true 4 (length bytes) held in
+        omega arith
 
     module _ {D R : Type 0} (descriptorIn : List ℕ → Outcome D) (some : ReplyHeader → D → R) (none : ReplyHeader → R) where
       -- with another status there is no descriptor
@@ -62,6 +63,5 @@ module _ (bytes : List ℕ) (read : ReplyHeaderRead) (said : headerSays read ≡
           → told ≡ descriptorReplyIn descriptorIn some none bytes
       unfolding descriptorReplyIn
       described-some ok t r =
-          let whole : take (length bytes - 4) (drop 4 bytes) ≡ drop 4 bytes = take-all (length bytes - 4) (drop 4 bytes) (rw length-drop (omega arith)) in
           let yes : eqb (h .status) SUCCESS ≡ true = rw ok in
-          headed _ (rw (yes, ← whole, ← r) t)
+          headed _ (rw (yes, ← part-whole 4 bytes, ← r) t)

@@ -11,7 +11,7 @@ use Rattle.zigbee_types.specs.Statuses.{SUCCESS}
 use Rattle.zigbee_types.specs.Addresses.{ieeeOf, shortOf}
 use Rattle.zigbee_types.specs.Layout.{size}
 use Rattle.zigbee_types.proofs.Runs.{run-read-none, run-read-more, run-parses, three-parse}
-use Rattle.zdo_readers.specs.Readers.{headerWidths, addrWidths, serverMaskIn, nodeDescRspIn, associatedIn, addrReplyIn}
+use Rattle.zdo_readers.specs.Readers.{goesOn, headerWidths, addrWidths, serverMaskIn, nodeDescRspIn, associatedIn, addrReplyIn}
 use Rattle.zdo_readers.specs.Answers.{nodeDescRspSays, addrReplySays}
 use Rattle.zdo_readers.specs.declared.descriptor.OptionServerMask.{OptionServerMask}
 use Rattle.zdo_readers.specs.declared.descriptor.NodeDescRspRead.the-variants as rsp
@@ -65,7 +65,7 @@ module _ {bytes : List ℕ} where
       → FieldRead 1 bytes 0 u i
       → FieldRead 1 bytes i v j
       → FieldRead 2 bytes j w k
-      → m ≡ serverMaskIn (eqb v SUCCESS && leb 14 (length bytes)) bytes
+      → m ≡ serverMaskIn (goesOn v bytes) bytes
       → 4 ≤ length bytes
       → nodeDescRspSays (rsp.Reply (record { seq = u; status = v; «nwk_addr_of_interest» = shortOf w; «server_mask» = m })) ≡ nodeDescRspIn bytes
   unfolding nodeDescRspSays nodeDescRspIn headerWidths
@@ -77,7 +77,7 @@ module _ {bytes : List ℕ} where
       → FieldRead 1 bytes i v j
       → FieldRead 8 bytes j w k
       → FieldRead 2 bytes k x l
-      → o ≡ associatedIn (eqb v SUCCESS && leb 14 (length bytes)) bytes
+      → o ≡ associatedIn (goesOn v bytes) bytes
       → 12 ≤ length bytes
       → addrReplySays (addr.Reply (record { seq = u; status = v; «ieee_addr» = ieeeOf w; «nwk_addr» = shortOf x; associated = o })) ≡ addrReplyIn bytes
   unfolding addrReplySays addrReplyIn addrWidths size

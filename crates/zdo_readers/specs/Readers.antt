@@ -70,6 +70,10 @@ powerWithout h = record { header = h; descriptor = power.None }
 unfoldable pub powerReplyIn : List ℕ → Outcome PowerReply
 powerReplyIn = descriptorReplyIn powerDescriptorIn powerWith powerWithout
 
+-- does a reply of this status go on, with SUCCESS and 14 bytes?
+abbrev pub goesOn : ℕ → List ℕ → Bool
+goesOn status reply = eqb status SUCCESS && leb 14 (length reply)
+
 -- ---- the server mask alone
 
 -- is there one: it stands at byte 12
@@ -86,7 +90,7 @@ nodeDescRspIn reply =
       seq = field 0;
       status = field 1;
       «nwk_addr_of_interest» = shortOf (field 2);
-      «server_mask» = serverMaskIn (eqb (field 1) SUCCESS && leb 14 (length reply)) reply;
+      «server_mask» = serverMaskIn (goesOn (field 1) reply) reply;
     })
     reply
 
@@ -119,7 +123,7 @@ addrReplyIn reply =
       status = field 1;
       «ieee_addr» = ieeeOf (field 2);
       «nwk_addr» = shortOf (field 3);
-      associated = associatedIn (eqb (field 1) SUCCESS && leb 14 (length reply)) reply;
+      associated = associatedIn (goesOn (field 1) reply) reply;
     })
     reply
 

@@ -5,11 +5,7 @@ use zdo_replies::descriptor::STATUS_SUCCESS;
 use zigbee_types::Refusal;
 use zigbee_types::ShortAddress;
 ghost use mathlib.Core.Path.{_≡_};
-ghost use mathlib.Core.Bool.{_&&_};
-ghost use lib.Dec.{eqb, leb};
-ghost use lib.ListN.{length};
-ghost use Rattle.zigbee_types.specs.Statuses.{SUCCESS};
-ghost use Rattle.zdo_readers.specs.Readers.{serverMaskIn, nodeDescRspIn, stackRevisionOf};
+ghost use Rattle.zdo_readers.specs.Readers.{goesOn, serverMaskIn, nodeDescRspIn, stackRevisionOf};
 ghost use Rattle.zdo_readers.specs.Answers.{nodeDescRspSays, revisionSays};
 
 // A parsed Node_Desc_rsp (2.4.4.2.3).
@@ -75,7 +71,7 @@ pub fn parse_node_desc_rsp(asdu: &[u8]) -> NodeDescRspRead
 
 // The server mask, which sits 8 octets into the node descriptor (2.3.2.3); absent unless the status is SUCCESS and it is there.
 fn server_mask(asdu: &[u8], status: u8) -> OptionServerMask
-    ensures { λ r. ⌜ r ≡ serverMaskIn (eqb status SUCCESS && leb 14 (length (now (asdu .entry)))) (now (asdu .entry)) ⌝ }
+    ensures { λ r. ⌜ r ≡ serverMaskIn (goesOn status (now (asdu .entry))) (now (asdu .entry)) ⌝ }
 {
     if status != STATUS_SUCCESS {
         return OptionServerMask::None;

@@ -13,14 +13,10 @@ use zigbee_types::Places;
 use zigbee_types::Refusal;
 use zigbee_types::ShortAddress;
 ghost use mathlib.Core.Path.{_≡_};
-ghost use mathlib.Core.Bool.{_&&_};
-ghost use lib.Dec.{eqb, leb};
-ghost use lib.ListN.{length};
 ghost use Rattle.zigbee_types.specs.Outcome.{mapped};
-ghost use Rattle.zigbee_types.specs.Statuses.{SUCCESS};
 ghost use Rattle.node_descriptor.specs.NodeDescriptor.{nodeSays};
 ghost use Rattle.node_power_descriptor.specs.PowerDescriptor.{powerSays};
-ghost use Rattle.zdo_readers.specs.Readers.{headerIn, nodeWith, nodeReplyIn, powerWith, powerReplyIn, associatedIn, addrReplyIn, statusReplyIn};
+ghost use Rattle.zdo_readers.specs.Readers.{headerIn, goesOn, nodeWith, nodeReplyIn, powerWith, powerReplyIn, associatedIn, addrReplyIn, statusReplyIn};
 ghost use Rattle.zdo_readers.specs.Answers.{headerSays, nodeReplySays, powerReplySays, addrReplySays, statusReplySays};
 
 // ---- what most replies begin with
@@ -211,7 +207,7 @@ impl AddrReply {
 // What stands behind the two addresses, if the status is SUCCESS and there are two bytes more: NumAssocDev, StartIndex, and short
 // addresses up to the end, a single last byte ignored.
 fn read_associated(reply: &[u8], status: u8) -> OptionAssociated
-    ensures { λ r. ⌜ r ≡ associatedIn (eqb status SUCCESS && leb 14 (length (now (reply .entry)))) (now (reply .entry)) ⌝ }
+    ensures { λ r. ⌜ r ≡ associatedIn (goesOn status (now (reply .entry))) (now (reply .entry)) ⌝ }
 {
     if status != STATUS_SUCCESS {
         return OptionAssociated::None;

@@ -1,19 +1,25 @@
--- The later part of a buffer, from a place on, lent to a writer: what it writes there is put at that place. Assumes nothing.
+-- Parts of bytes: one between two places, and the later part of a buffer, from a place on, lent to a writer, where what it writes is
+-- put at that place. Assumes nothing.
 use Prim.Native.Nat.{ℕ, _+_, _-_, _≤_}
 use native.Mathlib.Omega.{arith}
 use mathlib.Core.Path.{_≡_}
 use mathlib.Core.List.{List, [], append-nil, append-assoc}
-use lib.ListN.{length, drop, length-drop, drop-of-length-le}
+use lib.ListN.{length, take, drop, length-drop, drop-of-length-le}
 use lib.Seq.{sets-eq, take-all, drop-drop}
 use borrow.Author.Tests.{le-leb}
 use borrow.Rule.Slice.PartMut.{midOf, putMid}
+use Rattle.zigbee_types.specs.Lists.{part}
 use Rattle.zigbee_types.specs.Outcome.{Outcome, answer, mapped, fitted, Wrote}
 use Rattle.zigbee_types.specs.Layout.{Field, laid, FieldsPut}
 use Rattle.zigbee_types.proofs.Outcomes.{wrote-bytes}
 
+-- a part that ends n behind its start has n elements
+pub part-is : {A : Type 0} (xs : List A) (start end n : ℕ) → end ≡ start + n → take (end - start) (drop start xs) ≡ part start n xs
+part-is xs start end n e = let long : end - start ≡ n = omega arith in rw long
+
 module _ (m : ℕ) (t : List ℕ) where
   -- the part runs to the end
-  part-whole : midOf m (length t - m) t ≡ drop m t
+  pub part-whole : midOf m (length t - m) t ≡ drop m t
   part-whole = take-all (length t - m) (drop m t) (rw length-drop (omega arith))
 
   -- so there is nothing behind it

@@ -1,6 +1,6 @@
 -- `part_of` meets its contract. Assumes nothing.
 use borrow.Author.Needs.{needs}
-use Rattle.zdo_device.proofs.Clusters.{part-is}
+use Rattle.zigbee_types.proofs.Parts.{part-is}
 use Rattle.zdo_device.proofs.descriptor.part_of.Statement.{statement}
 use Rattle.zdo_device.proofs.descriptor.part_of.Tie as tie
 
