@@ -4,6 +4,7 @@ pub mod ReadBack
 pub mod ReplyReadBack
 pub mod ReadersRefuse
 pub mod TwoReaders
+pub mod Trailing
 pub mod OneAnswer
 pub mod Calls
 pub mod History

@@ -36,7 +36,7 @@ needed n bytes a next {b} e = go (leb n (length bytes)) refl
     go false h = absurd (refused (rw h at e))
 
 -- the number at a place behind n bytes
-numberAt-drop : (k n : ℕ) (bytes : List ℕ) (at : ℕ) → numberAt k (drop n bytes) at ≡ numberAt k bytes (n + at)
+pub numberAt-drop : (k n : ℕ) (bytes : List ℕ) (at : ℕ) → numberAt k (drop n bytes) at ≡ numberAt k bytes (n + at)
 unfolding numberAt
 numberAt-drop k n bytes at = rw drop-drop
 
