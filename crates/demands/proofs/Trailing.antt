@@ -27,7 +27,7 @@ use Rattle.zdo_list_readers.specs.Answers.{listReplySays}
 use Rattle.zdo_list_readers.specs.declared.readers.ListReply.{ListReply}
 use Rattle.zdo_list_readers.specs.declared.readers.ListReplyRead.the-variants as list
 use Rattle.zdo_list_readers.specs.declared.readers.MatchReply.{MatchReply}
-use Rattle.zdo_list_readers.specs.declared.readers.MatchReply.the-variants.{Matched, Failed}
+use Rattle.zdo_list_readers.specs.declared.readers.MatchReply.the-variants.{Matched}
 use Rattle.zdo_list_readers.proofs.Listed.{list-long}
 use Rattle.demands.specs.Trailing.{IgnoresTrailing, TrailingIgnored, PlacesStand}
 use Rattle.demands.proofs.TwoReaders.{numberAt-drop}
@@ -70,10 +70,10 @@ fields-drop (w ∷ ws) n bytes at =
     rw (numberAt-drop, fields-drop ws n bytes (at + w), further)
 
 -- entries of w bytes take w bytes each
-size-entries : (w n : ℕ) → size (replicate n w) ≡ w * n
+size-replicate : (w n : ℕ) → size (replicate n w) ≡ w * n
 unfolding size
-size-entries w zero = omega arith
-size-entries w (suc n) = omega (arith, size-entries w n)
+size-replicate w zero = omega arith
+size-replicate w (suc n) = omega (arith, size-replicate w n)
 
 module _ (start len : ℕ) (bytes : List ℕ) where
   -- fields of a part of bytes stand in all of them, as much further on as the part begins
@@ -85,7 +85,7 @@ module _ (start len : ℕ) (bytes : List ℕ) where
   entries-within :
       (w : ℕ) (p : Places) → behind w p ≤ length (part start len bytes) → entriesAt w bytes (shifted start p) ≡ entriesAt w (part start len bytes) p
   unfolding entriesAt behind shifted
-  entries-within w p h = fields-within (replicate (p .count) w) (p .start) (rw size-entries h)
+  entries-within w p h = fields-within (replicate (p .count) w) (p .start) (rw size-replicate h)
 
 -- ---- outcomes
 
