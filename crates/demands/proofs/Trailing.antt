@@ -5,17 +5,17 @@ use native.Mathlib.Omega.{arith}
 use mathlib.Core.Path.{_≡_, refl, sym, ap}
 use mathlib.Core.Bool.{Bool, true, false, cond}
 use mathlib.Core.List.{List, [], _∷_, _++_}
-use lib.Dec.{eqb, leb}
+use lib.Dec.{eqb}
 use lib.ListN.{length, getD, drop, replicate, length-append, length-drop, take-append-drop}
 use lib.Seq.{take-append-le, drop-append-le}
-use borrow.Author.Tests.{le-leb, leb-true}
+use borrow.Author.Tests.{le-leb}
 use Rattle.zigbee_types.specs.Lists.{part}
 use Rattle.zigbee_types.specs.Outcome.{Outcome, answer, refusal, andThen, mapped, needing}
 use Rattle.zigbee_types.specs.Bytes.{numberAt}
 use Rattle.zigbee_types.specs.Layout.{size, fieldsAt, fieldOf, parsed, counted, behind, entriesAt, listsIn}
 use Rattle.zigbee_types.specs.Statuses.{SUCCESS}
 use Rattle.zigbee_types.specs.declared.Places.{Places}
-use Rattle.zigbee_types.proofs.Outcomes.{refused, granted}
+use Rattle.zigbee_types.proofs.Outcomes.{refused}
 use Rattle.node_descriptor.specs.NodeDescriptor.{nodeDescriptorIn}
 use Rattle.node_power_descriptor.specs.PowerDescriptor.{powerWidths, powerDescriptorIn}
 use Rattle.simple_descriptor.specs.SimpleDescriptor.{simpleWidths, simpleOf, simpleDescriptorIn, simpleFields}
@@ -30,7 +30,7 @@ use Rattle.zdo_list_readers.specs.declared.readers.MatchReply.{MatchReply}
 use Rattle.zdo_list_readers.specs.declared.readers.MatchReply.the-variants.{Matched}
 use Rattle.zdo_list_readers.proofs.Listed.{list-long}
 use Rattle.demands.specs.Trailing.{IgnoresTrailing, TrailingIgnored, PlacesStand}
-use Rattle.demands.proofs.TwoReaders.{numberAt-drop}
+use Rattle.demands.proofs.TwoReaders.{held, answered, numberAt-drop}
 
 -- ---- fields within bytes
 
@@ -40,18 +40,18 @@ module _ (bytes rest : List ℕ) where
   part-more at n h =
       rw (drop-append-le at bytes rest (omega arith)) (take-append-le n (drop at bytes) rest (rw length-drop (omega arith)))
 
-  -- so are the number in it
+  -- so is the number in it
   number-more : (k at : ℕ) → at + k ≤ length bytes → numberAt k (bytes ++ rest) at ≡ numberAt k bytes at
   unfolding numberAt
   number-more k at h = rw (part-more at k h)
 
-  -- the numbers in fields
+  -- so are the numbers in fields
   fields-more : (ws : List ℕ) (at : ℕ) → at + size ws ≤ length bytes → fieldsAt ws (bytes ++ rest) at ≡ fieldsAt ws bytes at
   unfolding fieldsAt size
   fields-more [] at h = refl
   fields-more (w ∷ ws) at h = rw (number-more w at (omega arith), fields-more ws (at + w) (omega arith))
 
-  -- and a list that is counted there
+  -- and so is a list that is counted there
   counted-more : (at : ℕ) → at + 1 ≤ length bytes → counted (bytes ++ rest) at ≡ counted bytes at
   unfolding counted
   counted-more at h = rw (number-more 1 at h)
@@ -90,12 +90,7 @@ module _ (start len : ℕ) (bytes : List ℕ) where
 -- ---- outcomes
 
 module _ {A : Type 0} where
-  -- an answer that needs bytes: they are there, and it is what was to be answered
-  held : (n : ℕ) (bytes : List ℕ) (a : A) {r : A} → needing n bytes a ≡ answer r → (n ≤ length bytes) × (answer a ≡ answer r)
-  unfolding needing
-  held n bytes a e = let (t, same) = granted (leb n (length bytes)) (answer a) 3 e in (leb-true n (length bytes) t, same)
-
-  -- with more behind them they are still there
+  -- bytes that an answer needs are there with more behind them
   needing-more : (n : ℕ) (bytes rest : List ℕ) (a : A) {r : A} → needing n bytes a ≡ answer r → needing n (bytes ++ rest) a ≡ answer r
   unfolding needing
   needing-more n bytes rest a e =
@@ -121,12 +116,6 @@ module _ {A : Type 0} where
   where-more false read a h reply rest r e = e
 
   module _ {B : Type 0} where
-    -- an answer of what came next followed an answer
-    answered : (o : Outcome A) (next : A → Outcome B) {b : B} → andThen o next ≡ answer b → (a : A) × (o ≡ answer a) × (next a ≡ answer b)
-    unfolding andThen
-    answered (answer a) next e = (a, refl, e)
-    answered (refusal n) next e = absurd (refused e)
-
     -- an answer that is seen through f was one
     seen : (f : A → B) (o : Outcome A) {b : B} → mapped f o ≡ answer b → (a : A) × (o ≡ answer a) × (answer (f a) ≡ answer b)
     unfolding mapped

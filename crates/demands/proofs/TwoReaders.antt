@@ -9,7 +9,7 @@ use lib.Dec.{eqb, leb}
 use lib.ListN.{length, drop, length-drop}
 use lib.Seq.{drop-drop}
 use borrow.Author.Tests.{leb-true, le-leb}
-use Rattle.zigbee_types.specs.Outcome.{Outcome, answer, andThen, mapped, needing}
+use Rattle.zigbee_types.specs.Outcome.{Outcome, answer, refusal, andThen, mapped, needing}
 use Rattle.zigbee_types.specs.Bytes.{numberAt}
 use Rattle.zigbee_types.specs.Layout.{size, fieldsAt, fieldOf, parsed}
 use Rattle.zigbee_types.specs.Addresses.{shortOf}
@@ -23,17 +23,17 @@ use Rattle.zdo_readers.specs.declared.readers.OptionNodeDescriptor.{OptionNodeD
 use Rattle.zdo_readers.specs.declared.readers.OptionNodeDescriptor.the-variants as node
 use Rattle.demands.specs.TwoReaders.{maskOf, revisionOf, rspOf, inBrief, NodeReadersAgree, RevisionsAgree}
 
--- an answer that needed bytes, and what came next: the bytes are there, and it came
-needed :
-    {A B : Type 0} (n : ℕ) (bytes : List ℕ) (a : A) (next : A → Outcome B) {b : B}
-    → andThen (needing n bytes a) next ≡ answer b
-    → (n ≤ length bytes) × (next a ≡ answer b)
-unfolding andThen needing
-needed n bytes a next {b} e = go (leb n (length bytes)) refl
-  where
-    go : (t : Bool) → leb n (length bytes) ≡ t → (n ≤ length bytes) × (next a ≡ answer b)
-    go true h = (leb-true n (length bytes) h, rw h at e)
-    go false h = absurd (refused (rw h at e))
+-- an answer that needs bytes: they are there, and it is what was to be answered
+pub held : {A : Type 0} (n : ℕ) (bytes : List ℕ) (a : A) {r : A} → needing n bytes a ≡ answer r → (n ≤ length bytes) × (answer a ≡ answer r)
+unfolding needing
+held n bytes a e = let (t, same) = granted (leb n (length bytes)) (answer a) 3 e in (leb-true n (length bytes) t, same)
+
+-- an answer of what came next followed an answer
+pub answered :
+    {A B : Type 0} (o : Outcome A) (next : A → Outcome B) {b : B} → andThen o next ≡ answer b → (a : A) × (o ≡ answer a) × (next a ≡ answer b)
+unfolding andThen
+answered (answer a) next e = (a, refl, e)
+answered (refusal n) next e = absurd (refused e)
 
 -- the number at a place behind n bytes
 pub numberAt-drop : (k n : ℕ) (bytes : List ℕ) (at : ℕ) → numberAt k (drop n bytes) at ≡ numberAt k bytes (n + at)
@@ -68,8 +68,10 @@ unfolding nodeReplyIn nodeDescRspIn descriptorReplyIn headerIn parsed needing
 node-readers-agree reply r e =
     let field : ℕ → ℕ = fieldOf headerWidths reply in
     let h : ReplyHeader = record { seq = field 0; status = field 1; «nwk_addr_of_interest» = shortOf (field 2) } in
-    let (long, came) = needed (size headerWidths) reply h _ e in
-    rw (le-leb _ _ long, brief reply h r (eqb (h .status) SUCCESS) came)
+    let (x, front, came) = answered (headerIn reply) _ e in
+    let (long, same) = held (size headerWidths) reply h front in
+    let is : x ≡ h = cc same in
+    rw (le-leb _ _ long, brief reply h r (eqb (h .status) SUCCESS) (rw is at came))
 
 -- the revision of a descriptor is that of its mask
 revision-brief : (d : OptionNodeDescriptor) → stackRevisionOf (maskOf d) ≡ revisionOf d
