@@ -187,7 +187,7 @@ module _ (reply : List ℕ) where
       rw (← shorter-where) (refuse-next 4 reply _ _ _ (λ _. rw byte-read (refuse-where (succeeds reply) _ _ _ (rw refuse-mapped h))))
 
   -- a list that is counted at byte 4, a byte for each entry, ends here
-  list-end : behind 1 (counted reply 4) ≡ 5 + byteOf reply 4
+  pub list-end : behind 1 (counted reply 4) ≡ 5 + byteOf reply 4
   unfolding behind counted
   list-end = omega (arith, byte-read reply 4)
 

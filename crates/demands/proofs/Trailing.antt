@@ -12,14 +12,15 @@ use borrow.Author.Tests.{le-leb}
 use Rattle.zigbee_types.specs.Lists.{part}
 use Rattle.zigbee_types.specs.Outcome.{Outcome, answer, refusal, andThen, mapped, needing}
 use Rattle.zigbee_types.specs.Bytes.{numberAt}
-use Rattle.zigbee_types.specs.Layout.{size, fieldsAt, fieldOf, parsed, counted, behind, entriesAt, listsIn}
+use Rattle.zigbee_types.specs.Layout.{size, fieldsAt, fieldOf, parsed, counted, behind, entriesAt}
 use Rattle.zigbee_types.specs.Statuses.{SUCCESS}
 use Rattle.zigbee_types.specs.declared.Places.{Places}
 use Rattle.zigbee_types.proofs.Outcomes.{refused}
 use Rattle.node_descriptor.specs.NodeDescriptor.{nodeDescriptorIn}
 use Rattle.node_power_descriptor.specs.PowerDescriptor.{powerWidths, powerDescriptorIn}
-use Rattle.simple_descriptor.specs.SimpleDescriptor.{simpleWidths, simpleOf, simpleDescriptorIn, simpleFields}
+use Rattle.simple_descriptor.specs.SimpleDescriptor.{simpleDescriptorIn, simpleSays, simpleFields}
 use Rattle.simple_descriptor.specs.declared.SimpleDescriptorFields.{SimpleDescriptorFields}
+use Rattle.simple_descriptor.specs.declared.SimpleDescriptorRead.the-variants as descriptor
 use Rattle.zdo_readers.specs.Readers.{headerWidths, headerIn, descriptorReplyIn, nodeWith, nodeWithout, nodeReplyIn, powerWith, powerWithout, powerReplyIn, statusWidths, statusReplyIn}
 use Rattle.zdo_readers.specs.declared.readers.ReplyHeader.{ReplyHeader}
 use Rattle.zdo_list_readers.specs.ListReaders.{listBehind, listReplyIn, matchErrorWidths, matchReplyInAs, matchReplyIn, shifted, shiftedFields, simpleWithin, simpleReplyIn}
@@ -29,7 +30,9 @@ use Rattle.zdo_list_readers.specs.declared.readers.ListReplyRead.the-variants a
 use Rattle.zdo_list_readers.specs.declared.readers.MatchReply.{MatchReply}
 use Rattle.zdo_list_readers.specs.declared.readers.MatchReply.the-variants.{Matched}
 use Rattle.zdo_list_readers.proofs.Listed.{list-long}
+use Rattle.zdo_list_readers.proofs.Within.{lists-end}
 use Rattle.demands.specs.Trailing.{IgnoresTrailing, TrailingIgnored, PlacesStand}
+use Rattle.demands.proofs.ReadersRefuse.{list-end}
 use Rattle.demands.proofs.TwoReaders.{held, answered, numberAt-drop}
 
 -- ---- fields within bytes
@@ -55,11 +58,6 @@ module _ (bytes rest : List ℕ) where
   counted-more : (at : ℕ) → at + 1 ≤ length bytes → counted (bytes ++ rest) at ≡ counted bytes at
   unfolding counted
   counted-more at h = rw (number-more 1 at h)
-
--- a list ends past its count
-counted-past : (w : ℕ) (bytes : List ℕ) (at : ℕ) → at + 1 ≤ behind w (counted bytes at)
-unfolding behind counted
-counted-past w bytes at = omega arith
 
 -- fields behind n bytes
 fields-drop : (ws : List ℕ) (n : ℕ) (bytes : List ℕ) (at : ℕ) → fieldsAt ws (drop n bytes) at ≡ fieldsAt ws bytes (n + at)
@@ -181,7 +179,7 @@ list-more =
     then-more headerIn (λ h reply. listBehind h reply) header-more
     (λ reply rest h r came e.
     let (long, _) = held (behind 1 (counted reply 4)) reply _ e in
-    rw (counted-more reply rest 4 (omega (arith, long, counted-past 1 reply 4))) (needing-more _ reply rest _ e))
+    rw (counted-more reply rest 4 (omega (arith, long, list-end reply))) (needing-more _ reply rest _ e))
 
 -- a match reply, by whether it succeeds
 match-as-more : (t : Bool) → IgnoresTrailing (matchReplyInAs t)
@@ -213,28 +211,13 @@ simple-more =
     (λ reply rest l r came e.
     rw (part-more reply rest (l .list .start) (l .list .count) (omega (arith, list-whole reply l came))) e)
 
--- both lists of a descriptor that was read end within its bytes
-lists-end :
-    (bytes : List ℕ) (d : SimpleDescriptorFields)
-    → simpleDescriptorIn bytes ≡ answer d
-    → (behind 2 (d .«input_clusters») ≤ length bytes) × (behind 2 (d .«output_clusters») ≤ length bytes)
-unfolding simpleDescriptorIn simpleOf listsIn
-lists-end bytes d e =
-    let inputs : Places = counted bytes 6 in
-    let outputs : Places = counted bytes (behind 2 inputs) in
-    let (l, came, made) = seen (simpleOf (fieldOf simpleWidths bytes)) (listsIn bytes 6) e in
-    let (long, same) = held (behind 2 outputs) bytes _ came in
-    let first : d .«input_clusters» ≡ inputs = cc in
-    let second : d .«output_clusters» ≡ outputs = cc in
-    (rw first (omega (arith, long, counted-past 2 bytes (behind 2 inputs))), rw second long)
-
 simple-stands :
     (reply : List ℕ) (start len : ℕ) (d : SimpleDescriptorFields)
     → simpleDescriptorIn (part start len reply) ≡ answer d
     → simpleFields reply (shiftedFields start d) ≡ simpleFields (part start len reply) d
-unfolding simpleFields shiftedFields
+unfolding simpleSays simpleFields shiftedFields
 simple-stands reply start len d e =
-    let (first, second) = lists-end (part start len reply) d e in
+    let (first, second) = lists-end (part start len reply) (descriptor.Descriptor d) (sym e) refl in
     rw (entries-within start len reply 2 (d .«input_clusters») first, entries-within start len reply 2 (d .«output_clusters») second)
 
 -- ---- all of them

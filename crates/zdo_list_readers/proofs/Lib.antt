@@ -1,2 +1,2 @@
 pub mod Listed
-mod Within
+pub mod Within

@@ -56,14 +56,14 @@ module _ (l : ListReply) (bytes : List ℕ) where
       unfolding simpleReplySays simpleWithin simpleSays mapped
       within-refused e = rw (ne-eqb _ _ long, ← there, e)
 
--- lists that were read begin within the bytes
-lists-begin :
+-- lists that were read end within the bytes
+pub lists-end :
     (bytes : List ℕ) (read : SimpleDescriptorRead) {d : SimpleDescriptorFields}
     → simpleSays read ≡ simpleDescriptorIn bytes
     → read ≡ descriptor.Descriptor d
-    → (d .«input_clusters» .start ≤ length bytes) × (d .«output_clusters» .start ≤ length bytes)
+    → (behind 2 (d .«input_clusters») ≤ length bytes) × (behind 2 (d .«output_clusters») ≤ length bytes)
 unfolding simpleSays simpleDescriptorIn listsIn needing simpleOf behind counted
-lists-begin bytes read {d} said e =
+lists-end bytes read {d} said e =
     let inputs : Places = counted bytes 6 in
     let outputs : Places = counted bytes (behind 2 inputs) in
     let lists : ClusterLists = record { «input_clusters» = inputs; «output_clusters» = outputs } in
@@ -72,7 +72,7 @@ lists-begin bytes read {d} said e =
     let long : behind 2 outputs ≤ length bytes = leb-true (behind 2 outputs) (length bytes) held in
     let first : d .«input_clusters» ≡ inputs = cc same in
     let second : d .«output_clusters» ≡ outputs = cc same in
-    (rw first (omega (arith, long)), rw second (omega (arith, long)))
+    (rw first (omega (arith, long)), rw second long)
 
 -- so they still have a place in the reply
 pub places-fit :
@@ -84,7 +84,7 @@ pub places-fit :
     → (place .start + d .«input_clusters» .start < 2 ^ 63) × (place .start + d .«output_clusters» .start < 2 ^ 63)
 unfolding behind
 places-fit bytes place read said e room small =
-    let (first, second) = lists-begin (take (place .start + place .count - place .start) (drop (place .start) bytes)) read said e in
+    let (first, second) = lists-end (take (place .start + place .count - place .start) (drop (place .start) bytes)) read said e in
     let long = length-take (place .start + place .count - place .start) (drop (place .start) bytes) in
     (omega (arith, first, long), omega (arith, second, long))
 
