@@ -79,7 +79,7 @@ fn print_revision(name: &[u8], bytes: &[u8]) {
 }
 
 // The stack revision in a descriptor's server mask.
-fn revision(d: NodeDescriptor) -> usize {
+pub(crate) fn revision(d: NodeDescriptor) -> usize {
     let server_mask = d.server_mask();
     server_mask.get_stack_compliance_revision() as usize
 }
@@ -129,7 +129,7 @@ fn print_power(name: &[u8], bytes: &[u8; 2]) {
 }
 
 // The numbers of a power descriptor's fields.
-fn print_power_fields(d: NodePowerDescriptor) {
+pub(crate) fn print_power_fields(d: NodePowerDescriptor) {
     print::byte(d.current_power_mode().bits());
     print::byte(d.available_power_sources());
     print::byte(d.current_power_source().bits());
@@ -178,7 +178,7 @@ fn print_simple(name: &[u8], bytes: &[u8]) {
 }
 
 // A simple descriptor's fields, each list by its place and its count.
-fn print_simple_fields(d: SimpleDescriptorFields) {
+pub(crate) fn print_simple_fields(d: SimpleDescriptorFields) {
     print::byte(d.endpoint);
     print::word(d.profile_id);
     print::word(d.device_id);

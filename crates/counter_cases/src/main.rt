@@ -1,12 +1,13 @@
 // The program of counter-cases: runs the library on inputs of document 01 and of docs/DIFFERENCES.md, and prints what it gives.
 // Its file stdout has what document 01 says. K1 to K11 are there, of K10 the request and the reply each by itself, and beside them
-// the other requests and replies, and more of the binding table, the device's records and matching.
+// the other requests and replies, the readers of replies, and more of the binding table, the device's records and matching.
 mod bindings;
 mod descriptors;
 mod device;
 mod fields;
 mod matching;
 mod print;
+mod readers;
 mod replies;
 mod requests;
 
@@ -15,10 +16,13 @@ fn main() {
     descriptors::k1();
     replies::k1();
     descriptors::k2();
+    readers::k2();
     descriptors::k3();
     descriptors::k4();
+    readers::k4();
     descriptors::k5();
     device::k5();
+    readers::k5();
     descriptors::k6();
     device::k6();
     requests::k7_k8();
@@ -33,6 +37,7 @@ fn main() {
     replies::others();
     replies::many_matches();
     replies::codes();
+    readers::others();
     device::others();
     matching::places();
     matching::sizes();
