@@ -16,7 +16,8 @@ fn main() {
     descriptors::k1();
     replies::k1();
     descriptors::k2();
-    readers::k2();
+    readers::k2_mask();
+    readers::k2_node();
     descriptors::k3();
     descriptors::k4();
     readers::k4();

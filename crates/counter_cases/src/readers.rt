@@ -41,116 +41,80 @@ enum Reader {
     Status,
 }
 
-// K1's node reply, whose stack revision K2 has, by both of its readers; and the first bytes of it, without a mask.
-pub(crate) fn k2() {
+// K1's node reply, whose stack revision K2 has, by the Rust's reader; its first bytes, without a mask; and an error, also with all of
+// K1's bytes behind its four.
+pub(crate) fn k2_mask() {
+    print::text(b"K2 mask replies\n");
     three_lengths(
-        b"K2 mask",
         Reader::Mask,
         b"\x07\x00\x34\x12\x02\x40\x80\xCD\xAB\x52\x80\x00\x00\x2C\x80\x00\x00",
         14,
     );
-    three_lengths(b"mask", Reader::Mask, b"\x07\x00\x34\x12\x02", 4);
+    three_lengths(Reader::Mask, b"\x07\x00\x34\x12\x02", 4);
     three_lengths(
-        b"K2 node",
-        Reader::Node,
-        b"\x07\x00\x34\x12\x02\x40\x80\xCD\xAB\x52\x80\x00\x00\x2C\x80\x00\x00\xEE",
-        17,
-    );
-}
-
-// Power replies with K4's three pairs.
-pub(crate) fn k4() {
-    three_lengths(b"K4", Reader::Power, b"\x07\x00\x34\x12\x42\x84\xEE", 6);
-    print_reply(b"K4 22 84", Reader::Power, b"\x07\x00\x34\x12\x22\x84");
-    print_reply(b"K4 32 83", Reader::Power, b"\x07\x00\x34\x12\x32\x83");
-}
-
-// K5's simple reply.
-pub(crate) fn k5() {
-    three_lengths(
-        b"K5",
-        Reader::Simple,
-        b"\x07\x00\x34\x12\x0E\x01\x04\x01\x02\x03\x01\x02\x00\x00\x02\x04\x01\x19\x00\xEE",
-        19,
-    );
-}
-
-// The other forms.
-pub(crate) fn others() {
-    descriptor_errors();
-    active_lists();
-    matches();
-    simple_lengths();
-    addresses();
-    three_lengths(b"status", Reader::Status, b"\x0A\x8C\xEE", 2);
-}
-
-// Node and power replies that report an error, which need 4 bytes; behind these stand K1's descriptor and a pair that is refused.
-fn descriptor_errors() {
-    let reply = b"\x1C\x81\x78\x56\x02\x40\x80\xCD\xAB\x52\x80\x00\x00\x2C\x80\x00\x00";
-    three_lengths(b"mask error", Reader::Mask, reply, 4);
-    three_lengths(b"node error", Reader::Node, reply, 4);
-    three_lengths(
-        b"power error",
-        Reader::Power,
-        b"\x1C\x80\x78\x56\x22\x84",
+        Reader::Mask,
+        b"\x1C\x81\x78\x56\x02\x40\x80\xCD\xAB\x52\x80\x00\x00\x2C\x80\x00\x00",
         4,
     );
 }
 
-// An active list of two endpoints, and the error, whose list is empty.
-fn active_lists() {
+// The same reply by the reader of whole ones, and the same error.
+pub(crate) fn k2_node() {
+    print::text(b"K2 node replies\n");
     three_lengths(
-        b"active",
-        Reader::Active,
-        b"\x07\x00\x34\x12\x02\x01\x02\xEE",
-        7,
+        Reader::Node,
+        b"\x07\x00\x34\x12\x02\x40\x80\xCD\xAB\x52\x80\x00\x00\x2C\x80\x00\x00\xEE",
+        17,
     );
     three_lengths(
-        b"active error",
-        Reader::Active,
-        b"\x1D\x80\x78\x56\x00\xEE",
-        5,
-    );
-}
-
-// A match reply with its list, one in the form of an error but with SUCCESS, and an error with a list behind, whose third byte is
-// ignored.
-fn matches() {
-    three_lengths(
-        b"match",
-        Reader::Match,
-        b"\x17\x00\x34\x12\x02\x03\xF0\xEE",
-        7,
-    );
-    print_reply(b"match", Reader::Match, b"\x17\x00\x00");
-    three_lengths(
-        b"match error",
-        Reader::Match,
-        b"\x1F\x80\x05\x12\x02\x03\xF0",
-        3,
+        Reader::Node,
+        b"\x1C\x81\x78\x56\x02\x40\x80\xCD\xAB\x52\x80\x00\x00\x2C\x80\x00\x00",
+        4,
     );
 }
 
-// Simple replies of length 0, also with NOT_ACTIVE; of the length that a descriptor without clusters needs; and of one less and one
-// more.
-fn simple_lengths() {
+// Power replies with K4's three pairs, and an error with a refused pair behind its four bytes.
+pub(crate) fn k4() {
+    print::text(b"K4 power replies\n");
+    three_lengths(Reader::Power, b"\x07\x00\x34\x12\x42\x84\xEE", 6);
+    print_reply(Reader::Power, b"\x07\x00\x34\x12\x22\x84");
+    print_reply(Reader::Power, b"\x07\x00\x34\x12\x32\x83");
+    three_lengths(Reader::Power, b"\x1C\x80\x78\x56\x22\x84", 4);
+}
+
+// K5's simple reply, and replies of length 0, the last with NOT_ACTIVE.
+pub(crate) fn k5() {
+    print::text(b"K5 simple replies\n");
     three_lengths(
-        b"simple of 0",
         Reader::Simple,
-        b"\x07\x00\x34\x12\x00\xEE",
-        5,
+        b"\x07\x00\x34\x12\x0E\x01\x04\x01\x02\x03\x01\x02\x00\x00\x02\x04\x01\x19\x00\xEE",
+        19,
     );
-    print_reply(b"simple error", Reader::Simple, b"\x07\x83\x34\x12\x00");
-    simple_length(b"simple of 7", 7);
-    simple_length(b"simple of 8", 8);
-    simple_length(b"simple of 9", 9);
+    three_lengths(Reader::Simple, b"\x07\x00\x34\x12\x00\xEE", 5);
+    print_reply(Reader::Simple, b"\x07\x83\x34\x12\x00");
+}
+
+// The other readers, and more of the simple replies.
+pub(crate) fn others() {
+    simple_lengths();
+    active_lists();
+    matches();
+    addresses();
+    print::text(b"status replies\n");
+    three_lengths(Reader::Status, b"\x0A\x8C\xEE", 2);
+}
+
+// Simple replies of a length that is one less than the descriptor's, its own, and one more, which is past the reply.
+fn simple_lengths() {
+    print::text(b"simple replies of 7, 8, 9\n");
+    simple_length(7);
+    simple_length(8);
+    simple_length(9);
 }
 
 // A line for a simple reply that ends with a descriptor of 8 bytes and says this length.
-fn simple_length(name: &[u8], length: u8) {
+fn simple_length(length: u8) {
     print_reply(
-        name,
         Reader::Simple,
         &[
             0x07,
@@ -170,22 +134,36 @@ fn simple_length(name: &[u8], length: u8) {
     );
 }
 
+// An active list of two endpoints, and an error, whose list is empty.
+fn active_lists() {
+    print::text(b"active replies\n");
+    three_lengths(Reader::Active, b"\x07\x00\x34\x12\x02\x01\x02\xEE", 7);
+    three_lengths(Reader::Active, b"\x1D\x80\x78\x56\x00\xEE", 5);
+}
+
+// A match reply with its list, one in the form of an error but with SUCCESS, and an error with a list behind, whose third byte is
+// ignored.
+fn matches() {
+    print::text(b"match replies\n");
+    three_lengths(Reader::Match, b"\x17\x00\x34\x12\x02\x03\xF0\xEE", 7);
+    print_reply(Reader::Match, b"\x17\x00\x00");
+    three_lengths(Reader::Match, b"\x1F\x80\x05\x12\x02\x03\xF0", 3);
+}
+
 // An address reply, extended from 14 bytes on, with room for one address from 16 on; and an error, which never is extended.
 fn addresses() {
+    print::text(b"address replies\n");
     three_lengths(
-        b"address",
         Reader::Address,
         b"\x19\x00\x08\x07\x06\x05\x04\x03\x02\x01\x34\x12\x02\x01\x78\x56\x9A",
         14,
     );
     three_lengths(
-        b"address",
         Reader::Address,
         b"\x19\x00\x08\x07\x06\x05\x04\x03\x02\x01\x34\x12\x02\x01\x78\x56",
         12,
     );
     three_lengths(
-        b"address error",
         Reader::Address,
         b"\x20\x81\xF1\xF2\xF3\xF4\xF5\xF6\xF7\xF8\x78\x56\x02\x01",
         12,
@@ -193,18 +171,17 @@ fn addresses() {
 }
 
 // Lines for a reply, for so many bytes of it, and for one less.
-fn three_lengths(name: &[u8], reader: Reader, reply: &[u8], shortest: usize)
+fn three_lengths(reader: Reader, reply: &[u8], shortest: usize)
     requires { ⌜ (1 ≤ shortest) × (shortest ≤ length (now reply)) ⌝ }
 {
-    print_reply(name, reader, reply);
-    print_reply(name, reader, &reply[0..shortest]);
-    print_reply(name, reader, &reply[0..shortest - 1]);
+    print_reply(reader, reply);
+    print_reply(reader, &reply[0..shortest]);
+    print_reply(reader, &reply[0..shortest - 1]);
 }
 
 // A line for a reply.
-fn print_reply(name: &[u8], reader: Reader, reply: &[u8]) {
-    print::text(name);
-    print::text(b" reply length");
+fn print_reply(reader: Reader, reply: &[u8]) {
+    print::text(b"  length");
     print::decimal(reply.len());
     print_fields(reader, reply);
     print::end_line();
