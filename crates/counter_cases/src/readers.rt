@@ -288,9 +288,9 @@ fn print_match(reply: &[u8]) {
     match MatchReply::try_read(reply) {
         MatchReplyRead::Reply(matched) => match matched {
             MatchReply::Matched(list) => print_list(list),
-            MatchReply::Failed { seq, status } => {
-                print::byte(seq);
-                print::byte(status);
+            MatchReply::Failed(error) => {
+                print::byte(error.seq);
+                print::byte(error.status);
             }
         },
         MatchReplyRead::Refused(why) => print::refusal(why),
