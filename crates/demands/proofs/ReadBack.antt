@@ -89,8 +89,8 @@ power-reads-back p before after told w = rw (wrote-bytes w .left) (power-back p 
 -- ---- simple
 
 -- four bits of a version are the same, cut to a byte and again
-pub version-cut : {v : ℕ} → v % 16 % 256 % 16 ≡ v % 16
-version-cut = omega arith
+pub version-cut : (v : ℕ) → v % 16 % 256 % 16 ≡ v % 16
+version-cut v = omega arith
 
 module _ (e : Endpoint) where
   -- the first fields
@@ -119,7 +119,7 @@ module _ (e : Endpoint) where
     unfolding mapped simpleHeader cut simpleOf simpleDescriptorIn simpleFields cutEndpoint
     simple-back rest =
         let lists = simple-lists [] rest in
-        rw (lists .places, simple-front rest, lists .first, lists .second, version-cut)
+        rw (lists .places, simple-front rest, lists .first, lists .second, version-cut (e .«device_version»))
 
 pub simple-reads-back : SimpleReadsBack
 unfolding simpleWritten

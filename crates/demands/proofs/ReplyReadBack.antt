@@ -290,7 +290,7 @@ module _ (seq : ℕ) (a : ShortAddress) (e : Endpoint) (few : clusterCount e ≤
       let own = rw append-nil at (simple-lists e few [] []) in
       let whole = rw front-long at (simple-lists e few front rest) in
       let place : 5 + (6 + 1 + 2 * length (e .«input_clusters») + 1) ≡ 11 + 1 + 2 * length (e .«input_clusters») + 1 = omega arith in
-      rw (own .places, rw append-nil at (simple-front e []), place, whole .first, whole .second, version-cut)
+      rw (own .places, rw append-nil at (simple-front e []), place, whole .first, whole .second, version-cut (e .«device_version»))
 
   described-reply-back : (rest : List ℕ) → simpleRead (front ++ bytes ++ rest) ≡ answer (cutHeader seq SUCCESS a, some (cutEndpoint e))
   unfolding simpleReplyIn andThen simpleWithin mapped

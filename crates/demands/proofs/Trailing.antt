@@ -15,7 +15,8 @@ use Rattle.zigbee_types.specs.Bytes.{numberAt}
 use Rattle.zigbee_types.specs.Layout.{size, fieldsAt, fieldOf, parsed, counted, behind, entriesAt}
 use Rattle.zigbee_types.specs.Statuses.{SUCCESS}
 use Rattle.zigbee_types.specs.declared.Places.{Places}
-use Rattle.zigbee_types.proofs.Outcomes.{refused}
+use Rattle.zigbee_types.proofs.Fields.{numberAt-drop}
+use Rattle.zigbee_types.proofs.Outcomes.{refused, held, answered}
 use Rattle.node_descriptor.specs.NodeDescriptor.{nodeDescriptorIn}
 use Rattle.node_power_descriptor.specs.PowerDescriptor.{powerWidths, powerDescriptorIn}
 use Rattle.simple_descriptor.specs.SimpleDescriptor.{simpleDescriptorIn, simpleSays, simpleFields}
@@ -33,7 +34,6 @@ use Rattle.zdo_list_readers.proofs.Listed.{list-long}
 use Rattle.zdo_list_readers.proofs.Within.{lists-end}
 use Rattle.demands.specs.Trailing.{IgnoresTrailing, TrailingIgnored, PlacesStand}
 use Rattle.demands.proofs.ReadersRefuse.{list-end}
-use Rattle.demands.proofs.TwoReaders.{held, answered, numberAt-drop}
 
 -- ---- fields within bytes
 

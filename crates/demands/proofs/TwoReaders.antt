@@ -1,20 +1,20 @@
 -- The two readers of node replies agree: the server mask that one looks for alone is the one that the other's descriptor holds.
 -- Assumes nothing.
-use Prim.Native.Nat.{ℕ, _+_, _≤_}
+use Prim.Native.Nat.{ℕ, _≤_}
 use native.Mathlib.Omega.{arith}
 use mathlib.Core.Path.{_≡_, refl}
 use mathlib.Core.Bool.{Bool, true, false, _&&_, cond}
 use mathlib.Core.List.{List}
 use lib.Dec.{eqb, leb}
 use lib.ListN.{length, drop, length-drop}
-use lib.Seq.{drop-drop}
 use borrow.Author.Tests.{leb-true, le-leb}
-use Rattle.zigbee_types.specs.Outcome.{Outcome, answer, refusal, andThen, mapped, needing}
+use Rattle.zigbee_types.specs.Outcome.{answer, mapped, needing}
 use Rattle.zigbee_types.specs.Bytes.{numberAt}
 use Rattle.zigbee_types.specs.Layout.{size, fieldsAt, fieldOf, parsed}
 use Rattle.zigbee_types.specs.Addresses.{shortOf}
 use Rattle.zigbee_types.specs.Statuses.{SUCCESS}
-use Rattle.zigbee_types.proofs.Outcomes.{refused, granted, mapped-granted}
+use Rattle.zigbee_types.proofs.Fields.{numberAt-drop}
+use Rattle.zigbee_types.proofs.Outcomes.{granted, mapped-granted, held, answered}
 use Rattle.node_descriptor.specs.NodeDescriptor.{nodeWidths, nodeDescriptorIn}
 use Rattle.zdo_readers.specs.Readers.{headerWidths, headerIn, descriptorReplyIn, nodeWith, nodeWithout, nodeReplyIn, serverMaskIn, nodeDescRspIn, stackRevisionOf}
 use Rattle.zdo_readers.specs.declared.readers.ReplyHeader.{ReplyHeader}
@@ -22,23 +22,6 @@ use Rattle.zdo_readers.specs.declared.readers.NodeReply.{NodeReply}
 use Rattle.zdo_readers.specs.declared.readers.OptionNodeDescriptor.{OptionNodeDescriptor}
 use Rattle.zdo_readers.specs.declared.readers.OptionNodeDescriptor.the-variants as node
 use Rattle.demands.specs.TwoReaders.{maskOf, revisionOf, rspOf, inBrief, NodeReadersAgree, RevisionsAgree}
-
--- an answer that needs bytes: they are there, and it is what was to be answered
-pub held : {A : Type 0} (n : ℕ) (bytes : List ℕ) (a : A) {r : A} → needing n bytes a ≡ answer r → (n ≤ length bytes) × (answer a ≡ answer r)
-unfolding needing
-held n bytes a e = let (t, same) = granted (leb n (length bytes)) (answer a) 3 e in (leb-true n (length bytes) t, same)
-
--- an answer of what came next followed an answer
-pub answered :
-    {A B : Type 0} (o : Outcome A) (next : A → Outcome B) {b : B} → andThen o next ≡ answer b → (a : A) × (o ≡ answer a) × (next a ≡ answer b)
-unfolding andThen
-answered (answer a) next e = (a, refl, e)
-answered (refusal n) next e = absurd (refused e)
-
--- the number at a place behind n bytes
-pub numberAt-drop : (k n : ℕ) (bytes : List ℕ) (at : ℕ) → numberAt k (drop n bytes) at ≡ numberAt k bytes (n + at)
-unfolding numberAt
-numberAt-drop k n bytes at = rw drop-drop
 
 module _ (reply : List ℕ) where
   -- field 6 of a descriptor behind the header is what stands at byte 12

@@ -5,10 +5,10 @@ use native.Mathlib.Omega.{arith}
 use mathlib.Core.Path.{_≡_, refl, sym}
 use mathlib.Core.Bool.{Bool, true, false}
 use mathlib.Core.List.{List}
-use lib.Dec.{eqb, leb}
+use lib.Dec.{eqb}
 use lib.ListN.{length}
-use borrow.Author.Tests.{ne-eqb, le-leb, lt-leb, leb-true}
-use Rattle.zigbee_types.specs.Outcome.{Outcome, answer, refusal, andThen, mapped, needing}
+use borrow.Author.Tests.{ne-eqb, le-leb, lt-leb}
+use Rattle.zigbee_types.specs.Outcome.{Outcome, refusal, andThen, mapped, needing}
 use Rattle.zigbee_types.specs.Bytes.{numberAt, FieldRead}
 use Rattle.zigbee_types.specs.Layout.{size, counted, behind}
 use Rattle.zigbee_types.specs.Statuses.{SUCCESS}
@@ -16,7 +16,7 @@ use Rattle.zigbee_types.specs.declared.Refusal.the-variants.{Malformed}
 use Rattle.zigbee_types.proofs.Fields.{read-byte}
 use Rattle.zigbee_types.proofs.Runs.{three-parse, run-short}
 use Rattle.zigbee_types.proofs.Counted.{list-counted}
-use Rattle.zigbee_types.proofs.Outcomes.{refused, granted}
+use Rattle.zigbee_types.proofs.Outcomes.{held, answered}
 use Rattle.zdo_readers.specs.Readers.{headerWidths, headerIn}
 use Rattle.zdo_readers.specs.declared.readers.ReplyHeader.{ReplyHeader}
 use Rattle.zdo_list_readers.specs.ListReaders.{listBehind, listReplyIn, matchErrorWidths, matchReplyInAs, matchReplyIn}
@@ -48,18 +48,17 @@ module _ (h : ReplyHeader) (bytes : List ℕ) where
     list-whole e l = let r = list-counted 1 p in rw (e, ← r .told, ← r .moved, le-leb (n + 1 * v) (length bytes) (omega arith))
 
 -- a list that was read is whole
-module _ (bytes : List ℕ) (l : ListReply) where
-  behind-long : (h : Outcome ReplyHeader) → andThen h (λ x. listBehind x bytes) ≡ answer l → behind 1 (l .list) ≤ length bytes
-  unfolding andThen listBehind needing
-  behind-long (answer h) e =
-      let (held, same) = granted (leb (behind 1 (counted bytes 4)) (length bytes)) _ 3 e in
-      let place : l .list ≡ counted bytes 4 = cc in
-      rw place (leb-true _ _ held)
-  behind-long (refusal n) e = absurd (refused e)
-
-  pub list-long : (read : ListReplyRead) → listReplySays read ≡ listReplyIn bytes → read ≡ list.Reply l → behind 1 (l .list) ≤ length bytes
-  unfolding listReplySays listReplyIn
-  list-long read said e = behind-long (headerIn bytes) (rw e at (sym said))
+pub list-long :
+    (bytes : List ℕ) (l : ListReply) (read : ListReplyRead)
+    → listReplySays read ≡ listReplyIn bytes
+    → read ≡ list.Reply l
+    → behind 1 (l .list) ≤ length bytes
+unfolding listReplySays listReplyIn listBehind
+list-long bytes l read said e =
+    let (h, _, came) = answered (headerIn bytes) (λ x. listBehind x bytes) (rw e at (sym said)) in
+    let (whole, same) = held (behind 1 (counted bytes 4)) bytes _ came in
+    let place : l .list ≡ counted bytes 4 = cc same in
+    rw place whole
 
 -- ---- match
 

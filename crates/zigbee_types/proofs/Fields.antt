@@ -29,6 +29,11 @@ pub numberAt-past : (k : ℕ) (s : List ℕ) (at : ℕ) → length s ≤ at → 
 unfolding numberAt number
 numberAt-past k s at h = rw (drop-of-length-le s h, take-nil)
 
+-- the number at a place behind n bytes
+pub numberAt-drop : (k n : ℕ) (s : List ℕ) (at : ℕ) → numberAt k (drop n s) at ≡ numberAt k s (n + at)
+unfolding numberAt
+numberAt-drop k n s at = rw drop-drop
+
 -- the element at a place is the byte there
 pub read-byte : (s : List ℕ) (at : ℕ) → FieldRead 1 s at (getD s at 0) (at + 1)
 unfolding numberAt

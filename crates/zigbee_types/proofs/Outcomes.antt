@@ -1,12 +1,13 @@
 -- Outcomes: a test that is made before an answer, and what it says that a writer told a length. Assumes nothing.
-use Prim.Native.Nat.{ℕ}
+use Prim.Native.Nat.{ℕ, _≤_}
 use native.Mathlib.Omega.{arith}
 use mathlib.Core.Path.{_≡_, refl, sym}
 use mathlib.Core.Bool.{Bool, true, false, cond}
 use mathlib.Core.List.{List, _++_}
 use lib.Dec.{leb}
 use lib.ListN.{length, drop}
-use Rattle.zigbee_types.specs.Outcome.{Outcome, answer, refusal, mapped, fitted, written, Wrote}
+use borrow.Author.Tests.{leb-true}
+use Rattle.zigbee_types.specs.Outcome.{Outcome, answer, refusal, andThen, mapped, needing, fitted, written, Wrote}
 
 -- ---- a test
 
@@ -25,6 +26,18 @@ pub mapped-granted :
 unfolding mapped
 mapped-granted f true a n = refl
 mapped-granted f false a n = refl
+
+-- an answer that needs bytes: they are there, and it is what was to be answered
+pub held : {A : Type 0} (n : ℕ) (bytes : List ℕ) (a : A) {r : A} → needing n bytes a ≡ answer r → (n ≤ length bytes) × (answer a ≡ answer r)
+unfolding needing
+held n bytes a e = let (t, same) = granted (leb n (length bytes)) (answer a) 3 e in (leb-true n (length bytes) t, same)
+
+-- an answer of what came next followed an answer
+pub answered :
+    {A B : Type 0} (o : Outcome A) (next : A → Outcome B) {b : B} → andThen o next ≡ answer b → (a : A) × (o ≡ answer a) × (next a ≡ answer b)
+unfolding andThen
+answered (answer a) next e = (a, refl, e)
+answered (refusal n) next e = absurd (refused e)
 
 -- ---- writers
 
