@@ -107,6 +107,11 @@ fn fields(descriptor: NodeDescriptor) -> NodeDescriptorConfig {
     }
 }
 
+// Puts what all accessors of a descriptor say, as a node.
+pub(crate) fn put_descriptor(descriptor: NodeDescriptor, text: Text) -> Text {
+    put_node(fields(descriptor), text)
+}
+
 // Puts a node.
 fn put_node(node: NodeDescriptorConfig, text: Text) -> Text {
     let logical_type = node.logical_type;

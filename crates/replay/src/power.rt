@@ -59,7 +59,11 @@ fn accessors(line: &[u8], text: Text) -> Text {
     if words::word_of(line, 1).len() < 4 {
         return text;
     }
-    let descriptor = descriptor_of(line);
+    put_descriptor(descriptor_of(line), text)
+}
+
+// Puts what the accessors of a descriptor say, as a power.
+pub(crate) fn put_descriptor(descriptor: NodePowerDescriptor, text: Text) -> Text {
     let text = out::hex_u16(text, values::of_mode(descriptor.current_power_mode()));
     let text = out::hex_u16(text, values::of_source(descriptor.current_power_source()));
     out::hex_u16(

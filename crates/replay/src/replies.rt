@@ -1,10 +1,10 @@
 // The questions about replies, and about the statuses in them (oracle/README.md, "Replies").
-use crate::bindings;
 use crate::bits;
 use crate::node;
 use crate::out;
 use crate::out::Text;
 use crate::power;
+use crate::readers;
 use crate::words;
 use zdo_addr_rsp::descriptor::addr_rsp;
 use zdo_addr_rsp::descriptor::addr_rsp_error;
@@ -91,7 +91,7 @@ fn answer_status(line: &[u8], text: Text) -> Text {
         0 => out::hex_u8(text, discovery_error(reason).code()),
         1 => out::hex_u8(text, bind_status(reason).code()),
         2 => out::hex_u8(text, leave_status(leave(reason))),
-        _ => bindings::answer(line, text),
+        _ => readers::answer(line, text),
     }
 }
 

@@ -123,13 +123,13 @@ fn match_desc(bytes: &[u8], text: Text) -> Text {
 }
 
 // Puts a number of two bytes after a space.
-fn put_u16(number: u16, text: Text) -> Text {
+pub(crate) fn put_u16(number: u16, text: Text) -> Text {
     let text = out::byte(text, b' ');
     out::hex_u16(text, number)
 }
 
 // Puts where a list stands, and how many entries it has, each after a space.
-fn put_places(list: Places, text: Text) -> Text {
+pub(crate) fn put_places(list: Places, text: Text) -> Text {
     let text = out::byte(text, b' ');
     let text = out::decimal(text, list.start);
     let text = out::byte(text, b' ');

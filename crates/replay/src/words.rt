@@ -15,6 +15,7 @@
 //     P            a power
 //     B            an entry of the binding table
 //     T            endpoint records
+//     M            a server mask, or `-` for none
 // What reads a word takes any word: one of another kind gives some number, or some bytes.
 use crate::values;
 ghost use Prim.Native.Nat.{_≤_, _<_};
@@ -110,6 +111,7 @@ fn is_of(word: &[u8], kind: u8) -> bool {
         b'P' => is_power(word),
         b'B' => is_entry(word),
         b'T' => is_records(word),
+        b'M' => is_mask(word),
         _ => false,
     }
 }
@@ -226,6 +228,11 @@ fn is_records(word: &[u8]) -> bool {
         return true;
     }
     word.len() % 28 == 0
+}
+
+// Whether a word says a server mask: four digits, or `-` for none.
+fn is_mask(word: &[u8]) -> bool {
+    check::same(word, b"-") || is_hex(word, 4)
 }
 
 // Whether a word is a number in decimal, of at most nine digits, and without a zero in front that it does not need.

@@ -9,7 +9,7 @@
 mod bindings;
 mod descriptors;
 mod device;
-mod dice;
+pub mod dice;
 mod fields;
 mod replies;
 mod requests;
