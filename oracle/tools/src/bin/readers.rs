@@ -141,7 +141,7 @@ fn questions(words: [&str; 4], sample: bool) -> Result<(), String> {
     );
     for kind in COPIES {
         let count = made.iter().filter(|made| made.copy == kind).count();
-        eprintln!("  {kind:<20}{count:>10}");
+        eprintln!("  {kind:<24}{count:>10}");
     }
     Ok(())
 }

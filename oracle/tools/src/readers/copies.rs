@@ -4,7 +4,7 @@ use super::READERS;
 use crate::questions::dice::Dice;
 
 /// The kinds of copies.
-pub const COPIES: [&str; 9] = [
+pub const COPIES: [&str; 10] = [
     "as written",
     "bytes behind it",
     "cut by one byte",
@@ -12,11 +12,13 @@ pub const COPIES: [&str; 9] = [
     "another status",
     "a count one more",
     "a count one less",
+    "bits that are not read",
     "another byte",
     "to another reader",
 ];
 
-/// A copy of a kind, and the reader that it is for. One that has no count to damage gets another byte.
+/// A copy of a kind, and the reader that it is for. One that has no count to damage, or no bits that are not read, gets another
+/// byte.
 pub fn copy(
     kind: &str,
     reader: &'static str,
@@ -38,6 +40,7 @@ pub fn copy(
         }
         "a count one more" => counted(dice, reader, &mut copy, 1),
         "a count one less" => counted(dice, reader, &mut copy, u8::MAX),
+        "bits that are not read" => unread(dice, reader, &mut copy),
         "another byte" => {
             another(dice, &mut copy);
             sometimes_behind(dice, &mut copy);
@@ -80,6 +83,23 @@ fn counted(dice: &mut Dice, reader: &str, reply: &mut Vec<u8>, by: u8) {
         }
     }
     sometimes_behind(dice, reply);
+}
+
+/// Sets bits that the Rust's writer leaves at zero and the reader leaves out: those beside the type and the band of a node, the high
+/// ones of a version, and the third byte of a match error.
+fn unread(dice: &mut Dice, reader: &str, reply: &mut [u8]) {
+    let bits = 1 + dice.below(255) as u8;
+    match (reader, reply) {
+        ("NodeReply::try_read", [_, 0, _, _, first, band, ..]) => {
+            *first |= bits & 0xE0;
+            *band |= bits & 0x07;
+        }
+        ("SimpleReply::try_read", [_, 0, _, _, _, _, _, _, _, _, version, ..]) => {
+            *version |= (bits % 15 + 1) << 4;
+        }
+        ("MatchReply::try_read", [_, 1..=255, third]) => *third = bits,
+        (_, reply) => another(dice, reply),
+    }
 }
 
 /// Where a reply has a count or a length: of its list or descriptor, of the clusters in that, or of associated devices.
