@@ -1,13 +1,10 @@
-// The questions about the readers of active, match and simple replies (oracle/README.md, "Readers of replies").
-use crate::bindings;
+// The answers of the readers of active, match and simple replies (oracle/README.md, "Readers of replies").
 use crate::out;
 use crate::out::Text;
 use crate::readers::put_header;
 use crate::readers::put_none;
 use crate::readers::put_status;
 use crate::requests::put_places;
-use crate::requests::put_u16;
-use crate::words;
 use simple_descriptor::SimpleDescriptorFields;
 use zdo_list_readers::readers::ListReply;
 use zdo_list_readers::readers::ListReplyRead;
@@ -17,35 +14,12 @@ use zdo_list_readers::readers::OptionSimpleDescriptor;
 use zdo_list_readers::readers::SimpleReply;
 use zdo_list_readers::readers::SimpleReplyRead;
 
-// A reply that is read.
-enum Reply {
-    List,
-    Match,
-    Simple,
-}
-
-// Puts the answer to a question about these readers, or hands the line on.
-pub(crate) fn answer(line: &[u8], text: Text) -> Text {
-    let questions = b"ListReply::try_read b;\
-        MatchReply::try_read b;\
-        SimpleReply::try_read b";
-    match words::which(line, questions) {
-        0 => read(line, Reply::List, text),
-        1 => read(line, Reply::Match, text),
-        2 => read(line, Reply::Simple, text),
-        _ => bindings::answer(line, text),
-    }
-}
-
-// Puts the reply that is read: behind the question's name stand BYTES.
-fn read(line: &[u8], reply: Reply, text: Text) -> Text {
-    let mut space = [0u8; words::BYTES];
-    let count = words::bytes_in(line, 1, &mut space);
-    let bytes = &space[0..count];
-    match reply {
-        Reply::List => list(bytes, text),
-        Reply::Match => matched(bytes, text),
-        Reply::Simple => simple(bytes, text),
+// Puts the reply that a reader gives, by the reader's place among the questions.
+pub(crate) fn read(bytes: &[u8], reader: usize, text: Text) -> Text {
+    match reader {
+        5 => list(bytes, text),
+        6 => matched(bytes, text),
+        _ => simple(bytes, text),
     }
 }
 

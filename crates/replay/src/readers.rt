@@ -1,4 +1,6 @@
-// The questions about the readers of node, power, address and status replies (oracle/README.md, "Readers of replies").
+// The questions about the readers of replies (oracle/README.md, "Readers of replies"), and the replies that are not in
+// `list_readers`.
+use crate::bindings;
 use crate::list_readers;
 use crate::node;
 use crate::out;
@@ -26,45 +28,37 @@ use zdo_readers::readers::StatusReply;
 use zdo_readers::readers::StatusReplyRead;
 use zigbee_types::ShortAddress;
 
-// A reply that is read.
-enum Reply {
-    NodeDesc,
-    Node,
-    Power,
-    Addr,
-    Status,
-}
-
-// Puts the answer to a question about these readers, or hands the line on.
+// Puts the answer to a question about a reader, or hands the line on.
 pub(crate) fn answer(line: &[u8], text: Text) -> Text {
     let questions = b"parse_node_desc_rsp b;\
         NodeReply::try_read b;\
         PowerReply::try_read b;\
         AddrReply::try_read b;\
         StatusReply::try_read b;\
+        ListReply::try_read b;\
+        MatchReply::try_read b;\
+        SimpleReply::try_read b;\
         stack_revision M";
-    match words::which(line, questions) {
-        0 => read(line, Reply::NodeDesc, text),
-        1 => read(line, Reply::Node, text),
-        2 => read(line, Reply::Power, text),
-        3 => read(line, Reply::Addr, text),
-        4 => read(line, Reply::Status, text),
-        5 => put_revision(revision(line), text),
-        _ => list_readers::answer(line, text),
+    let reader = words::which(line, questions);
+    match reader {
+        8 => put_revision(revision(line), text),
+        9 => bindings::answer(line, text),
+        _ => read(line, reader, text),
     }
 }
 
-// Puts the reply that is read: behind the question's name stand BYTES.
-fn read(line: &[u8], reply: Reply, text: Text) -> Text {
+// Puts the reply that a reader gives, by the reader's place among the questions: behind the question's name stand BYTES.
+fn read(line: &[u8], reader: usize, text: Text) -> Text {
     let mut space = [0u8; words::BYTES];
     let count = words::bytes_in(line, 1, &mut space);
     let bytes = &space[0..count];
-    match reply {
-        Reply::NodeDesc => node_desc(bytes, text),
-        Reply::Node => node(bytes, text),
-        Reply::Power => power(bytes, text),
-        Reply::Addr => addr(bytes, text),
-        Reply::Status => status(bytes, text),
+    match reader {
+        0 => node_desc(bytes, text),
+        1 => node(bytes, text),
+        2 => power(bytes, text),
+        3 => addr(bytes, text),
+        4 => status(bytes, text),
+        _ => list_readers::read(bytes, reader, text),
     }
 }
 
