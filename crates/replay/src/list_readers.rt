@@ -49,7 +49,7 @@ fn matched(bytes: &[u8], text: Text) -> Text {
 fn put_match(reply: MatchReply, text: Text) -> Text {
     match reply {
         MatchReply::Matched(list) => put_list(list, text),
-        MatchReply::Failed { seq, status } => put_none(put_status(seq, status, text)),
+        MatchReply::Failed(error) => put_none(put_status(error.seq, error.status, text)),
     }
 }
 

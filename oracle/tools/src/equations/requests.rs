@@ -205,6 +205,9 @@ fn stack_revision(mut question: Words, answer: &str) -> Option<Vec<Part>> {
     question.end()?;
     Some(vec![part(
         format!("stackRevisionOf {mask}"),
-        option("revision", answer, 2)?,
+        match answer {
+            "-" => "none".to_owned(),
+            _ => format!("some {}", terms::number(answer, 2)?),
+        },
     )])
 }
