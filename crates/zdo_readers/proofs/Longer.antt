@@ -1,5 +1,6 @@
 -- What stands in a reply of SUCCESS that is long enough: the server mask, and what an extended address reply adds. Assumes nothing.
 use Prim.Native.Nat.{ℕ, _-_, _/_, _≤_, _<_}
+use native.Mathlib.Omega.{arith}
 use mathlib.Core.Path.{_≡_}
 use mathlib.Core.Bool.{Bool, true, false, _&&_, and-false}
 use mathlib.Core.List.{List}
@@ -23,8 +24,8 @@ use Rattle.zdo_readers.specs.declared.readers.OptionAssociated.the-varia
 -- ---- the test
 
 module _ (status n : ℕ) (bytes : List ℕ) where
-  pub other-status : (status ≡ SUCCESS → ⊥) → (eqb status SUCCESS && leb n (length bytes)) ≡ false
-  other-status h = rw (ne-eqb _ _ h)
+  pub other-status : SUCCESS < status → (eqb status SUCCESS && leb n (length bytes)) ≡ false
+  other-status h = let other : status ≡ SUCCESS → ⊥ = λ e. omega (arith, e) in rw (ne-eqb _ _ other)
 
   pub too-short : length bytes < n → (eqb status SUCCESS && leb n (length bytes)) ≡ false
   too-short h = rw (lt-leb _ _ h, and-false)
