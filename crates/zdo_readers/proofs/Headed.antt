@@ -27,12 +27,13 @@ module _ (bytes : List ℕ) (read : ReplyHeaderRead) (said : headerSays read ≡
   unfolding headerSays andThen
   headed-refused next e = rw (← said, e)
 
+  -- so is one that was to go on with a descriptor
   pub described-refused :
-      {D R : Type 0} (descriptorIn : List ℕ → Outcome D) (some : ReplyHeader → D → R) (none : ReplyHeader → R) {why : Refusal}
+      {D R : Type 0} (descriptorIn : List ℕ → Outcome D) (with : ReplyHeader → D → R) (without : ReplyHeader → R) {why : Refusal}
       → read ≡ Refused why
-      → refusal (refusalNumber why) ≡ descriptorReplyIn descriptorIn some none bytes
+      → refusal (refusalNumber why) ≡ descriptorReplyIn descriptorIn with without bytes
   unfolding descriptorReplyIn
-  described-refused descriptorIn some none e = headed-refused _ e
+  described-refused descriptorIn with without e = headed-refused _ e
 
   module _ {h : ReplyHeader} (e : read ≡ Header h) where
     -- one with it is what follows
@@ -48,9 +49,9 @@ module _ (bytes : List ℕ) (read : ReplyHeaderRead) (said : headerSays read ≡
         let long = leb-true 4 (length bytes) held in
         omega arith
 
-    module _ {D R : Type 0} (descriptorIn : List ℕ → Outcome D) (some : ReplyHeader → D → R) (none : ReplyHeader → R) where
+    module _ {D R : Type 0} (descriptorIn : List ℕ → Outcome D) (with : ReplyHeader → D → R) (without : ReplyHeader → R) where
       -- with another status there is no descriptor
-      pub described-none : {r : R} → (h .status ≡ SUCCESS → ⊥) → r ≡ none h → answer r ≡ descriptorReplyIn descriptorIn some none bytes
+      pub described-none : {r : R} → (h .status ≡ SUCCESS → ⊥) → r ≡ without h → answer r ≡ descriptorReplyIn descriptorIn with without bytes
       unfolding descriptorReplyIn
       described-none other is = headed _ (rw (ne-eqb _ _ other, is))
 
@@ -58,9 +59,9 @@ module _ (bytes : List ℕ) (read : ReplyHeaderRead) (said : headerSays read ≡
       pub described-some :
           {told : Outcome R} {d : Outcome D}
           → h .status ≡ SUCCESS
-          → told ≡ mapped (some h) d
+          → told ≡ mapped (with h) d
           → d ≡ descriptorIn (take (length bytes - 4) (drop 4 bytes))
-          → told ≡ descriptorReplyIn descriptorIn some none bytes
+          → told ≡ descriptorReplyIn descriptorIn with without bytes
       unfolding descriptorReplyIn
       described-some ok t r =
           let yes : eqb (h .status) SUCCESS ≡ true = rw ok in

@@ -2,9 +2,8 @@
 use Prim.Native.Nat.{ℕ, _-_, _/_, _≤_, _<_}
 use native.Mathlib.Omega.{arith}
 use mathlib.Core.Path.{_≡_}
-use mathlib.Core.Bool.{Bool, true, false, _&&_, and-false}
+use mathlib.Core.Bool.{Bool, true, false, and-false}
 use mathlib.Core.List.{List}
-use lib.Dec.{eqb, leb}
 use lib.ListN.{length}
 use borrow.Author.Tests.{ne-eqb, le-leb, lt-leb}
 use Rattle.zigbee_types.specs.Bytes.{FieldRead}
@@ -21,16 +20,16 @@ use Rattle.zdo_readers.specs.declared.readers.AddrReplyRead.the-variants
 use Rattle.zdo_readers.specs.declared.descriptor.OptionServerMask.the-variants as mask
 use Rattle.zdo_readers.specs.declared.readers.OptionAssociated.the-variants as associated
 
--- ---- the test
+-- ---- whether it goes on
 
-module _ (status n : ℕ) (bytes : List ℕ) where
-  pub other-status : SUCCESS < status → (eqb status SUCCESS && leb n (length bytes)) ≡ false
+module _ (status : ℕ) (bytes : List ℕ) where
+  pub other-status : SUCCESS < status → goesOn status bytes ≡ false
   other-status h = let other : status ≡ SUCCESS → ⊥ = λ e. omega (arith, e) in rw (ne-eqb _ _ other)
 
-  pub too-short : length bytes < n → (eqb status SUCCESS && leb n (length bytes)) ≡ false
+  pub too-short : length bytes < 14 → goesOn status bytes ≡ false
   too-short h = rw (lt-leb _ _ h, and-false)
 
-  pub success : status ≡ SUCCESS → n ≤ length bytes → (eqb status SUCCESS && leb n (length bytes)) ≡ true
+  pub success : status ≡ SUCCESS → 14 ≤ length bytes → goesOn status bytes ≡ true
   success e h = rw (e, le-leb _ _ h)
 
 -- ---- what is read where it holds, and where it does not
