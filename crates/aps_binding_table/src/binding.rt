@@ -142,7 +142,7 @@ pub fn remove_binding_link(table: BindingTable, binding: Binding) -> Linked
 }
 
 // Whether a count is within its limit, and the limit within the places (refusal 1).
-fn good_sizes(count: usize, limit: usize) -> bool
+pub fn good_sizes(count: usize, limit: usize) -> bool
     ensures { λ r. ⌜ r ≡ goodSizes count limit ⌝ }
 {
     (count <= limit) & (limit <= 32)

@@ -18,7 +18,7 @@ use Rattle.aps_binding_table.specs.Table.{emptyTable}
 use Rattle.aps_binding_table.specs.declared.binding.BindingTable.{BindingTable}
 use Rattle.zdo_requests.specs.Requests.{matchDescReqIn}
 use Rattle.zdo_matching.specs.Matching.{matchingEndpoints}
-use Rattle.zdo_dispatcher.specs.Host.{Host, Asked}
+use Rattle.zdo_discovery.specs.Host.{Host, Asked}
 use Rattle.zdo_dispatcher.specs.Answers.{Answer, reply, leave, answered}
 use Rattle.demands.specs.OurDevice.{ourPools, ourDescriptors, ours}
 

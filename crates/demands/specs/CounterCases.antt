@@ -12,7 +12,7 @@ use Rattle.aps_binding_table.specs.Table.{emptyTable}
 use Rattle.zdo_replies.specs.Replies.{nodeDescRsp}
 use Rattle.zdo_readers.specs.Readers.{nodeDescRspIn, stackRevisionOf}
 use Rattle.zdo_device_rsp.specs.TableReplies.{simpleDescRsp}
-use Rattle.zdo_dispatcher.specs.Host.{Asked}
+use Rattle.zdo_discovery.specs.Host.{Asked}
 use Rattle.zdo_dispatcher.specs.Answers.{answered, run, runTable}
 use Rattle.demands.specs.OurDevice.{ourNode, ourPower, ourPools, ourDescriptors, ours, endpointAt, deviceOf}
 use Rattle.demands.specs.Cases.{Case, asked, found, heard, statusOf, powerShown, bindA, bindB, bindC}

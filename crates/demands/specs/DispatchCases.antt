@@ -10,7 +10,7 @@ use Rattle.node_descriptor.specs.declared.LogicalType.the-variants as type
 use Rattle.aps_binding.specs.Entry.{key}
 use Rattle.aps_binding_table.specs.Table.{emptyTable}
 use Rattle.zdo_requests.specs.Requests.{nodeDescReq}
-use Rattle.zdo_dispatcher.specs.Host.{Host, Asked, asking}
+use Rattle.zdo_discovery.specs.Host.{Host, Asked, asking}
 use Rattle.zdo_dispatcher.specs.Answers.{Told, replied, leaving, toldOf, answered, bufferAfter, run, runTable}
 use Rattle.demands.specs.OurDevice.{ourPower, ourPools, ourDescriptors, ours, endpoint1, endpoint2, endpointAt, deviceOf, hostOf}
 use Rattle.demands.specs.Cases.{Case, asked, heard, statusOf, bindHead, bindA, bindB, bindC, tried, replies, counting, joined, nodeOf, triedOn}

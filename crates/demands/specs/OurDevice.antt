@@ -13,7 +13,7 @@ use Rattle.power_names.specs.declared.CurrentPowerSourceLevel.the-variants.{Two
 use Rattle.zdo_device.specs.Tables.{Pools}
 use Rattle.zdo_device.specs.declared.descriptor.EndpointDescriptor.{EndpointDescriptor}
 use Rattle.zdo_device.specs.declared.descriptor.DeviceDescriptorConfig.{DeviceDescriptorConfig}
-use Rattle.zdo_dispatcher.specs.Host.{Host}
+use Rattle.zdo_discovery.specs.Host.{Host}
 
 -- end device, band 8, MAC 0x80, maker 0xABCD, buffer 0x52, sizes 0x0080, server mask 0x2C00, capabilities 0
 abbrev pub ourNode : NodeDescriptorConfig

@@ -1,1 +1,4 @@
 pub mod OneDispatched
+pub mod Told
+pub mod Links
+pub mod Requests

@@ -1,4 +1,2 @@
-pub mod Host
-pub mod Discovery
 pub mod Answers
 pub mod OneDispatched

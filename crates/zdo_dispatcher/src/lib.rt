@@ -1,1 +1,2 @@
-// The dispatcher: what is asked, and what is answered (document 01, "Binding and dispatch"). Its definitions stand in specs/.
+// The dispatcher: any request, from its cluster and payload to its reply (document 01, "Binding and dispatch").
+pub mod dispatcher;

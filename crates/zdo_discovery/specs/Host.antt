@@ -16,6 +16,10 @@ pub record Host : Type 0 where
   pub «nwk_addr» : ShortAddress
   pub pools : Pools
 
+-- the host that has these
+abbrev pub hostWith : DeviceDescriptorConfig → IeeeAddress → ShortAddress → Pools → Host
+hostWith device long short pools = record { device = device; «ieee_addr» = long; «nwk_addr» = short; pools = pools }
+
 -- a request's cluster and payload, and how many bytes the reply's buffer has
 pub record Asked : Type 0 where
   pub cluster : ℕ

@@ -1,0 +1,4 @@
+pub mod Read
+pub mod Handled
+pub mod Places
+pub mod ByCluster

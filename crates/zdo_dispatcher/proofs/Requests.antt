@@ -1,0 +1,159 @@
+-- Any request: tables that are not good, and then by the cluster. Assumes nothing.
+use Prim.Native.Nat.{ℕ, _^_, _<_}
+use native.Mathlib.Omega.{arith}
+use mathlib.Core.Path.{_≡_, refl}
+use mathlib.Core.Bool.{Bool, true, false, not, cond, _&&_, and-false}
+use mathlib.Core.List.{List, [], _∷_}
+use lib.ListN.{length}
+use borrow.Author.Tests.{ne-eqb}
+use Rattle.zigbee_types.specs.Outcome.{Outcome, answer, refusal, andThen, mapped, fitted, Wrote}
+use Rattle.zigbee_types.specs.Answers.{writtenSays}
+use Rattle.zigbee_types.specs.Refusals.{refusalNumber}
+use Rattle.zigbee_types.specs.declared.IeeeAddress.{IeeeAddress}
+use Rattle.zigbee_types.specs.declared.Refusal.{Refusal}
+use Rattle.zigbee_types.specs.declared.Refusal.the-variants.{BadTables}
+use Rattle.zigbee_types.specs.declared.Written.{Written}
+use Rattle.zigbee_types.proofs.Named.{Unnamed}
+use Rattle.zigbee_types.proofs.Outcomes.{wrote-answer}
+use Rattle.zigbee_types.proofs.Scans.{said-no, said-yes}
+use Rattle.aps_binding_table.specs.Table.{goodSizes, goodTable}
+use Rattle.aps_binding_table.specs.declared.binding.BindingTable.{BindingTable}
+use Rattle.zdo_requests.specs.Answers.{bindReqSays, mgmtLeaveReqSays}
+use Rattle.zdo_requests.specs.Clusters.{BIND-REQ, UNBIND-REQ, MGMT-LEAVE-REQ, replyCluster}
+use Rattle.zdo_requests.specs.Requests.{bindReqIn, mgmtLeaveReqIn}
+use Rattle.zdo_requests.specs.declared.descriptor.BindReq.{BindReq}
+use Rattle.zdo_requests.specs.declared.descriptor.BindReqRead.{BindReqRead}
+use Rattle.zdo_requests.specs.declared.descriptor.BindReqRead.the-variants as bind
+use Rattle.zdo_requests.specs.declared.descriptor.MgmtLeaveReq.{MgmtLeaveReq}
+use Rattle.zdo_requests.specs.declared.descriptor.MgmtLeaveReqRead.{MgmtLeaveReqRead}
+use Rattle.zdo_requests.specs.declared.descriptor.MgmtLeaveReqRead.the-variants as leaves
+use Rattle.zdo_device.specs.Tables.{goodDevice}
+use Rattle.zdo_device.specs.declared.descriptor.DeviceDescriptorConfig.{DeviceDescriptorConfig}
+use Rattle.zdo_discovery.specs.Host.{Host, asking, goodHost}
+use Rattle.zdo_discovery.specs.Discovery.{discovery, discovered}
+use Rattle.zdo_discovery.proofs.ByCluster.{answered-low}
+use Rattle.zdo_dispatcher.specs.Answers.{reply, leave, Told, replied, leaving, toldOf, tableAfter, bufferAfter, responseSays, sourceStatus, linkAnswer, onLink, byCluster, answered, Dispatched}
+use Rattle.zdo_dispatcher.specs.declared.dispatcher.Link.{Link}
+use Rattle.zdo_dispatcher.specs.declared.dispatcher.Link.the-variants.{Bind, Unbind}
+use Rattle.zdo_dispatcher.specs.declared.dispatcher.Response.the-variants as response
+use Rattle.zdo_dispatcher.proofs.Told.{dispatched-refused, dispatched-reply}
+
+-- ---- what was parsed
+
+module _ (payload : List ℕ) where
+  module _ (l : Link) (d : DeviceDescriptorConfig) (long : IeeeAddress) (t : BindingTable) (cluster : ℕ) (out : List ℕ) {r : BindReqRead} (said : bindReqSays r ≡ bindReqIn payload) where
+    -- a bind or an unbind request
+    pub link-read :
+        {q : BindReq} {source : ℕ} {told : Outcome Told} {u : BindingTable} {after : List ℕ}
+        → r ≡ bind.Request q
+        → source ≡ sourceStatus d long q
+        → Dispatched (linkAnswer l source t q cluster (length out)) t out told u after
+        → Dispatched (andThen (bindReqIn payload) (onLink l d long t (asking cluster payload out))) t out told u after
+    unfolding bindReqSays andThen onLink asking
+    link-read is ours h = rw (← said, is, ← ours) h
+
+    -- none
+    pub link-unread :
+        {why : Refusal}
+        → r ≡ bind.Refused why
+        → Dispatched (andThen (bindReqIn payload) (onLink l d long t (asking cluster payload out))) t out (responseSays (response.Refused why)) t out
+    unfolding bindReqSays andThen responseSays
+    link-unread {why} is = rw (← said, is) (dispatched-refused why t out (refusalNumber why) refl)
+
+  module _ {r : MgmtLeaveReqRead} (said : mgmtLeaveReqSays r ≡ mgmtLeaveReqIn payload) where
+    -- a leave request
+    pub leave-read : {q : MgmtLeaveReq} → r ≡ leaves.Request q → responseSays (response.Leave q) ≡ mapped leaving (mgmtLeaveReqIn payload)
+    unfolding mgmtLeaveReqSays mapped responseSays
+    leave-read is = rw (← said, is)
+
+    -- none
+    pub leave-unread : {why : Refusal} → r ≡ leaves.Refused why → responseSays (response.Refused why) ≡ mapped leaving (mgmtLeaveReqIn payload)
+    unfolding mgmtLeaveReqSays mapped responseSays
+    leave-unread is = rw (← said, is)
+
+-- ---- what is left
+
+-- a leave leaves table and buffer as they were, and so does a refusal
+left : (t : BindingTable) (before : List ℕ) (o : Outcome MgmtLeaveReq) {told : Outcome Told} → told ≡ mapped leaving o → Dispatched (mapped leave o) t before told t before
+unfolding mapped toldOf tableAfter bufferAfter
+left t before (answer q) e = record { said = e; table = refl; buffer = refl }
+left t before (refusal n) e = record { said = e; table = refl; buffer = refl }
+
+-- a reply that brings the table that was there leaves it, and so does a refusal
+kept : (cluster : ℕ) (t : BindingTable) (o : Outcome (List ℕ)) → t ≡ tableAfter t (mapped (λ bytes. reply cluster bytes t) o)
+unfolding mapped tableAfter
+kept cluster t (answer bytes) = refl
+kept cluster t (refusal n) = refl
+
+-- ---- the tables
+
+-- a binding table that was found good
+pub table-good : (t : BindingTable) {q : Bool} → q ≡ goodSizes (t .count) (t .limit) → not q ≡ false → goodTable t ≡ true
+unfolding goodTable
+table-good t is good = said-yes is good
+
+module _ (h : Host) (t : BindingTable) (cluster : ℕ) (payload out : List ℕ) {p : Bool} (device : p ≡ goodDevice (h .pools) (h .device)) where
+  -- the device's are not good
+  pub bad-device : not p ≡ true → Dispatched (answered h t (asking cluster payload out)) t out (responseSays (response.Refused BadTables)) t out
+  unfolding answered goodHost responseSays
+  bad-device bad = rw (said-no device bad) (dispatched-refused BadTables t out 1 refl)
+
+  module _ (fine : not p ≡ false) {q : Bool} (table : q ≡ goodSizes (t .count) (t .limit)) where
+    -- the binding table is not
+    pub bad-table : not q ≡ true → Dispatched (answered h t (asking cluster payload out)) t out (responseSays (response.Refused BadTables)) t out
+    unfolding answered goodHost goodTable responseSays
+    bad-table bad = rw (said-no table bad, and-false) (dispatched-refused BadTables t out 1 refl)
+
+    module _ (good : not q ≡ false) where
+      -- both are
+      by : answered h t (asking cluster payload out) ≡ byCluster h t (asking cluster payload out)
+      unfolding answered goodHost
+      by = rw (said-yes device fine, table-good t table good)
+
+      -- ---- by the cluster
+
+      module _ {told : Outcome Told} {u : BindingTable} {after : List ℕ} where
+        pub at-bind :
+            cluster ≡ BIND-REQ
+            → Dispatched (andThen (bindReqIn payload) (onLink Bind (h .device) (h .«ieee_addr») t (asking cluster payload out))) t out told u after
+            → Dispatched (answered h t (asking cluster payload out)) t out told u after
+        unfolding byCluster asking
+        at-bind e w = rw (by, e) (rw e at w)
+
+        pub at-unbind :
+            cluster ≡ UNBIND-REQ
+            → Dispatched (andThen (bindReqIn payload) (onLink Unbind (h .device) (h .«ieee_addr») t (asking cluster payload out))) t out told u after
+            → Dispatched (answered h t (asking cluster payload out)) t out told u after
+        unfolding byCluster asking
+        at-unbind e w = rw (by, e) (rw e at w)
+
+      pub at-leave :
+          {told : Outcome Told}
+          → cluster ≡ MGMT-LEAVE-REQ
+          → told ≡ mapped leaving (mgmtLeaveReqIn payload)
+          → Dispatched (answered h t (asking cluster payload out)) t out told t out
+      unfolding byCluster asking
+      at-leave e f = rw (by, e) (left t out (mgmtLeaveReqIn payload) f)
+
+      pub at-discovery :
+          {told : Outcome Told} {n : Outcome ℕ} {after : List ℕ}
+          → Unnamed Unit (λ k. k) cluster (BIND-REQ ∷ UNBIND-REQ ∷ MGMT-LEAVE-REQ ∷ [])
+          → Wrote (discovery h cluster payload) out n after
+          → told ≡ mapped (replied (replyCluster cluster)) n
+          → Dispatched (answered h t (asking cluster payload out)) t out told t after
+      unfolding byCluster asking discovered
+      at-discovery (((none, bind), unbind), leaves) w e =
+          rw (by, ne-eqb cluster BIND-REQ bind, ne-eqb cluster UNBIND-REQ unbind, ne-eqb cluster MGMT-LEAVE-REQ leaves)
+          (dispatched-reply (replyCluster cluster) (discovery h cluster payload) t w e (kept (replyCluster cluster) t (fitted (length out) (discovery h cluster payload))))
+
+-- the cluster of a discovery request that is answered is low
+pub low-cluster :
+    (h : Host) (cluster : ℕ) (payload : List ℕ) (w : Written) {out after : List ℕ}
+    → Wrote (discovery h cluster payload) out (writtenSays w) after
+    → (n : ℕ)
+    → writtenSays w ≡ answer n
+    → cluster < 2 ^ 15
+low-cluster h cluster payload w {out} {after} wrote n e =
+    let (bytes, is, there) = wrote-answer (discovery h cluster payload) {before = out} {after = after} (rw e at wrote) in
+    let low = answered-low h cluster payload is in
+    omega arith

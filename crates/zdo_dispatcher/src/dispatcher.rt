@@ -1,0 +1,276 @@
+// What the device answers to a request. (Added by document 01, "Binding and dispatch".)
+use aps_binding::binding::Binding;
+use aps_binding_table::binding::BindingTable;
+use aps_binding_table::binding::LinkStatus;
+use aps_binding_table::binding::Linked;
+use aps_binding_table::binding::create_binding_link;
+use aps_binding_table::binding::good_sizes;
+use aps_binding_table::binding::remove_binding_link;
+use zdo_bind_req::descriptor::parse_bind_req;
+use zdo_device::descriptor::DeviceDescriptorConfig;
+use zdo_discovery::discovery::discovery;
+use zdo_leave_req::descriptor::parse_mgmt_leave_req;
+use zdo_replies::descriptor::BindStatus;
+use zdo_replies::descriptor::STATUS_SUCCESS;
+use zdo_replies::descriptor::bind_rsp;
+use zdo_requests::descriptor::BIND_REQ;
+use zdo_requests::descriptor::BindReq;
+use zdo_requests::descriptor::BindReqDestination;
+use zdo_requests::descriptor::BindReqRead;
+use zdo_requests::descriptor::MGMT_LEAVE_REQ;
+use zdo_requests::descriptor::MgmtLeaveReq;
+use zdo_requests::descriptor::MgmtLeaveReqRead;
+use zdo_requests::descriptor::UNBIND_REQ;
+use zigbee_types::IeeeAddress;
+use zigbee_types::Refusal;
+use zigbee_types::ShortAddress;
+use zigbee_types::Written;
+ghost use Prim.Native.Nat.{ℕ, _+_, _^_, _<_};
+ghost use mathlib.Core.Path.{_≡_};
+ghost use mathlib.Core.Bool.{_&&_, true};
+ghost use lib.ListN.{length};
+ghost use Rattle.zigbee_types.specs.Outcome.{answer, andThen, mapped, Wrote};
+ghost use Rattle.zigbee_types.specs.Answers.{writtenSays};
+ghost use Rattle.aps_binding_table.specs.Answers.{linkSays};
+ghost use Rattle.aps_binding_table.specs.Table.{goodTable, onGood, Leaves};
+ghost use Rattle.zdo_requests.specs.Clusters.{replyCluster};
+ghost use Rattle.zdo_requests.specs.Requests.{bindReqIn, bindingOf, mgmtLeaveReqIn};
+ghost use Rattle.zdo_replies.specs.Codes.{bindCode};
+ghost use Rattle.zdo_replies.specs.Replies.{statusRsp};
+ghost use Rattle.zdo_device.specs.Tables.{pools};
+ghost use Rattle.zdo_discovery.specs.Host.{hostWith, asking};
+ghost use Rattle.zdo_dispatcher.specs.Answers.{leaving, replied, responseSays, stepOf, sourceStatus, linkAnswer, onLink, answered, Dispatched};
+
+// What a request came to: a reply that was written, by its cluster and length; a leave, which is handed to the host; or why it was
+// refused.
+pub enum Response {
+    Reply { cluster: u16, length: usize },
+    Leave(MgmtLeaveReq),
+    Refused(Refusal),
+}
+
+// The binding table after a request, and what the request came to.
+pub struct Responded {
+    pub table: BindingTable,
+    pub response: Response,
+}
+
+// A reply's cluster is the request's and this (2.4.4).
+const REPLY: u16 = 0x8000;
+
+// What is told of a reply to a request that came to `written`.
+fn told(cluster: u16, written: Written) -> Response
+    requires { ⌜ ((n : ℕ) → writtenSays written ≡ answer n → cluster < 2 ^ 15) ⌝ }
+    ensures { λ r. ⌜ responseSays r ≡ mapped (replied (replyCluster cluster)) (writtenSays written) ⌝ }
+{
+    match written {
+        Written::Length(length) => Response::Reply {
+            cluster: cluster + REPLY,
+            length,
+        },
+        Written::Refused(why) => Response::Refused(why),
+    }
+}
+
+// ---- bind and unbind
+
+// What a request does with the entry that it names.
+enum Link {
+    Bind,
+    Unbind,
+}
+
+// The entry that a bind or unbind request names.
+fn binding(request: BindReq) -> Binding
+    ensures { λ r. ⌜ r ≡ bindingOf request ⌝ }
+{
+    let destination = request.destination;
+    match destination {
+        BindReqDestination::Group(group) => {
+            Binding::group(request.src_endpoint, request.cluster_id, group)
+        }
+        BindReqDestination::Device { ieee, endpoint } => {
+            Binding::device(request.src_endpoint, request.cluster_id, ieee, endpoint)
+        }
+    }
+}
+
+// Success where a request's source is ours, its address first and then its endpoint; or the status that says what is not.
+fn source_status(
+    device: DeviceDescriptorConfig,
+    ieee_addr: IeeeAddress,
+    request: BindReq,
+) -> BindStatus
+    ensures { λ r. ⌜ bindCode r ≡ sourceStatus device «ieee_addr» request ⌝ }
+{
+    if request.src_address.0 != ieee_addr.0 {
+        return BindStatus::NotSupported;
+    }
+    if !device.supports_endpoint(request.src_endpoint) {
+        return BindStatus::InvalidEndpoint;
+    }
+    BindStatus::Success
+}
+
+// Binds or unbinds an entry.
+fn linked(link: Link, table: BindingTable, binding: Binding) -> Linked
+    ensures { λ r. ⌜ Leaves (onGood table (stepOf link table binding)) table (linkSays (r .status)) (r .table) ⌝ }
+{
+    match link {
+        Link::Bind => create_binding_link(table, binding),
+        Link::Unbind => remove_binding_link(table, binding),
+    }
+}
+
+// Builds the reply that tells what a bind or an unbind came to.
+fn link_rsp(seq: u8, status: LinkStatus, out: &mut [u8]) -> Written
+    ensures { λ r. ⌜ Wrote (andThen (linkSays status) (statusRsp seq)) (now (out .entry)) (writtenSays r) (now (out .exit)) ⌝ }
+{
+    match status {
+        LinkStatus::Success => bind_rsp(seq, BindStatus::Success, out),
+        LinkStatus::InvalidBinding => bind_rsp(seq, BindStatus::NoEntry, out),
+        LinkStatus::TableFull => bind_rsp(seq, BindStatus::TableFull, out),
+        LinkStatus::Refused(why) => Written::Refused(why),
+    }
+}
+
+// Replies to a bind or unbind request whose source has a status, and binds or unbinds where that is ours. Too short a buffer is refused
+// before anything is stored.
+fn link_answer(
+    link: Link,
+    source: BindStatus,
+    table: BindingTable,
+    request: BindReq,
+    cluster: u16,
+    out: &mut [u8],
+) -> Responded
+    requires { ⌜ goodTable table ≡ true ⌝ }
+    requires { ⌜ cluster < 2 ^ 15 ⌝ }
+    ensures { λ r. ⌜ Dispatched (linkAnswer link (bindCode source) table request cluster (length (now (out .entry)))) table (now (out .entry)) (responseSays (r .response)) (r .table) (now (out .exit)) ⌝ }
+{
+    if out.len() < 2 {
+        return Responded {
+            table,
+            response: Response::Refused(Refusal::ShortBuffer),
+        };
+    }
+    if source.code() != STATUS_SUCCESS {
+        let written = bind_rsp(request.seq, source, out);
+        return Responded {
+            table,
+            response: told(cluster, written),
+        };
+    }
+    let linked = linked(link, table, binding(request));
+    let status = linked.status;
+    let table = linked.table;
+    let written = link_rsp(request.seq, status, out);
+    Responded {
+        table,
+        response: told(cluster, written),
+    }
+}
+
+// Answers a Bind_req or Unbind_req (2.4.3.2.2, 2.4.3.2.3), of a binding table that was checked.
+fn on_link(
+    link: Link,
+    device: DeviceDescriptorConfig,
+    ieee_addr: IeeeAddress,
+    table: BindingTable,
+    cluster: u16,
+    payload: &[u8],
+    out: &mut [u8],
+) -> Responded
+    requires { ⌜ goodTable table ≡ true ⌝ }
+    requires { ⌜ cluster < 2 ^ 15 ⌝ }
+    ensures { λ r. ⌜ Dispatched (andThen (bindReqIn (now (payload .entry))) (onLink link device «ieee_addr» table (asking cluster (now (payload .entry)) (now (out .entry))))) table (now (out .entry)) (responseSays (r .response)) (r .table) (now (out .exit)) ⌝ }
+{
+    let read = parse_bind_req(payload);
+    match read {
+        BindReqRead::Request(request) => {
+            let source = source_status(device, ieee_addr, request);
+            link_answer(link, source, table, request, cluster, out)
+        }
+        BindReqRead::Refused(why) => Responded {
+            table,
+            response: Response::Refused(why),
+        },
+    }
+}
+
+// ---- leave
+
+// Answers a Mgmt_Leave_req (2.4.3.3.5): the request is handed to the host, and nothing is written.
+fn on_leave(payload: &[u8]) -> Response
+    ensures { λ r. ⌜ responseSays r ≡ mapped leaving (mgmtLeaveReqIn (now (payload .entry))) ⌝ }
+{
+    let read = parse_mgmt_leave_req(payload);
+    match read {
+        MgmtLeaveReqRead::Request(request) => Response::Leave(request),
+        MgmtLeaveReqRead::Refused(why) => Response::Refused(why),
+    }
+}
+
+// ---- any request
+
+// Answers a request: a reply in the buffer, or a leave for the host, with the table after it. Refused are bad tables, then a cluster
+// that is none of the ten, then too short a payload, then a descriptor of too many clusters, then too short a buffer; buffer and
+// table are then as they were.
+pub fn dispatch<'a>(
+    device: DeviceDescriptorConfig,
+    ieee_addr: IeeeAddress,
+    nwk_addr: ShortAddress,
+    inputs: &'a [u16],
+    outputs: &'a [u16],
+    table: BindingTable,
+    cluster: u16,
+    payload: &[u8],
+    out: &mut [u8],
+) -> Responded
+    ensures { λ r. ⌜ Dispatched (answered (hostWith device «ieee_addr» «nwk_addr» (pools (now (inputs .entry)) (now (outputs .entry)))) table (asking cluster (now (payload .entry)) (now (out .entry)))) table (now (out .entry)) (responseSays (r .response)) (r .table) (now (out .exit)) ⌝ }
+{
+    if !device.good_tables(inputs, outputs) {
+        return Responded {
+            table,
+            response: Response::Refused(Refusal::BadTables),
+        };
+    }
+    if !good_sizes(table.count, table.limit) {
+        return Responded {
+            table,
+            response: Response::Refused(Refusal::BadTables),
+        };
+    }
+    match cluster {
+        BIND_REQ => on_link(Link::Bind, device, ieee_addr, table, cluster, payload, out),
+        UNBIND_REQ => on_link(
+            Link::Unbind,
+            device,
+            ieee_addr,
+            table,
+            cluster,
+            payload,
+            out,
+        ),
+        MGMT_LEAVE_REQ => Responded {
+            table,
+            response: on_leave(payload),
+        },
+        _ => {
+            let written = discovery(
+                device,
+                ieee_addr,
+                nwk_addr,
+                inputs,
+                outputs,
+                cluster,
+                payload,
+                out,
+            );
+            Responded {
+                table,
+                response: told(cluster, written),
+            }
+        }
+    }
+}
