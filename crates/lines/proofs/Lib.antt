@@ -1,0 +1,4 @@
+pub mod Grown
+pub mod Taken
+pub mod Chunks
+pub mod OneOutcome

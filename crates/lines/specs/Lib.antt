@@ -1,0 +1,4 @@
+pub mod Lines
+pub mod Splitter
+pub mod Chunks
+pub mod OneOutcome
