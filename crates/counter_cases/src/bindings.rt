@@ -73,7 +73,13 @@ fn before_unused() {
 }
 
 // A table made by hand: its limit, its count, and the letters of what stands in its first three places.
-fn table_of(limit: usize, count: usize, first: u8, second: u8, third: u8) -> BindingTable {
+pub(crate) fn table_of(
+    limit: usize,
+    count: usize,
+    first: u8,
+    second: u8,
+    third: u8,
+) -> BindingTable {
     let mut table = BindingTable::new(limit);
     let first = entry(first);
     let second = entry(second);
@@ -113,7 +119,7 @@ fn print_status(status: LinkStatus) {
 }
 
 // Ends the line, and prints a table: its limit and its count, and a line for each of its first three places.
-fn print_table(table: BindingTable) {
+pub(crate) fn print_table(table: BindingTable) {
     print::text(b"\n  limit");
     print::decimal(table.limit);
     print::text(b" count");

@@ -18,8 +18,13 @@ ghost use Prim.Native.Nat.{_≤_};
 
 // Our device (document 01, "Counter-cases").
 pub(crate) fn our_node() -> NodeDescriptorConfig {
+    node_of(LogicalType::EndDevice)
+}
+
+// Our device, but of this type.
+pub(crate) fn node_of(logical_type: LogicalType) -> NodeDescriptorConfig {
     NodeDescriptorConfig {
-        logical_type: LogicalType::EndDevice,
+        logical_type,
         complex_descriptor_available: false,
         user_descriptor_available: false,
         frequency_band: 8,

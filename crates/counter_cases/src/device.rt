@@ -121,7 +121,7 @@ fn print_zeros(name: &[u8], count: u16, room: usize)
 }
 
 // A device of one endpoint, which is our endpoint 1 but for its number of inputs.
-fn device_of_inputs(count: u16) -> DeviceDescriptorConfig {
+pub(crate) fn device_of_inputs(count: u16) -> DeviceDescriptorConfig {
     let mut first = ENDPOINT_1;
     let mut device = our_device(1);
     first.input_count = count;

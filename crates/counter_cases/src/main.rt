@@ -1,13 +1,17 @@
 // The program of counter-cases: runs the library on inputs of document 01 and of docs/DIFFERENCES.md, and prints what it gives.
-// Its file stdout has what document 01 says. K1 to K11 are there, of K10 the request and the reply each by itself, and beside them
-// the other requests and replies, the readers of replies, and more of the binding table, the device's records and matching.
+// Its file stdout has what document 01 says. K1 to K11 are there, of K10 first the request and the reply each by itself, and beside
+// them the other requests and replies, the readers of replies, and more of the binding table, the device's records and matching. The
+// dispatcher comes last, with K1, K5, K7, K8 and K10 whole and its other rules.
 mod bindings;
 mod descriptors;
 mod device;
+mod discovery;
+mod dispatcher;
 mod fields;
 mod matching;
 mod print;
 mod readers;
+mod refusals;
 mod replies;
 mod requests;
 
@@ -43,4 +47,11 @@ fn main() {
     matching::places();
     matching::sizes();
     matching::past_pools();
+    dispatcher::k10();
+    dispatcher::links();
+    discovery::ours();
+    discovery::addresses();
+    discovery::about_another();
+    dispatcher::leave();
+    refusals::in_order();
 }

@@ -20,6 +20,14 @@ pub(crate) fn room(name: &[u8], room: usize) {
     decimal(room);
 }
 
+// A name, a request by its cluster and payload, and how much room a buffer has.
+pub(crate) fn asked(name: &[u8], cluster: u16, payload: &[u8], space: usize) {
+    text(name);
+    word(cluster);
+    bytes(payload);
+    room(b"", space);
+}
+
 // A number of so many hexadecimal digits, with a space before it.
 pub(crate) fn hex(n: u64, digits: usize) {
     text(b" ");

@@ -11,6 +11,7 @@ use zdo_requests::descriptor::BindReqDestination;
 use zdo_requests::descriptor::BindReqRead;
 use zdo_requests::descriptor::IeeeAddrReqRead;
 use zdo_requests::descriptor::MatchDescReqRead;
+use zdo_requests::descriptor::MgmtLeaveReq;
 use zdo_requests::descriptor::MgmtLeaveReqRead;
 use zdo_requests::descriptor::NwkAddrReqRead;
 use zdo_requests::descriptor::OptionIeeeAddress;
@@ -307,19 +308,22 @@ fn print_destination(destination: BindReqDestination) {
     }
 }
 
-// The fields of a leave request.
+// The fields of a leave request, or the refusal.
 fn print_leave(asdu: &[u8]) {
     match parse_mgmt_leave_req(asdu) {
-        MgmtLeaveReqRead::Request(request) => {
-            print::byte(request.seq);
-            let device_address = request.device_address;
-            match device_address {
-                OptionIeeeAddress::Some(address) => print::hex(address.0, 16),
-                OptionIeeeAddress::None => print::text(b" none"),
-            }
-            print::decimal(request.remove_children as usize);
-            print::decimal(request.rejoin as usize);
-        }
+        MgmtLeaveReqRead::Request(request) => print_leave_fields(request),
         MgmtLeaveReqRead::Refused(why) => print::refusal(why),
     }
+}
+
+// The fields of a leave request that was read.
+pub(crate) fn print_leave_fields(request: MgmtLeaveReq) {
+    print::byte(request.seq);
+    let device_address = request.device_address;
+    match device_address {
+        OptionIeeeAddress::Some(address) => print::hex(address.0, 16),
+        OptionIeeeAddress::None => print::text(b" none"),
+    }
+    print::decimal(request.remove_children as usize);
+    print::decimal(request.rejoin as usize);
 }

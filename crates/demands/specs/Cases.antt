@@ -20,7 +20,7 @@ use Rattle.zdo_requests.specs.Requests.{matchDescReqIn}
 use Rattle.zdo_matching.specs.Matching.{matchingEndpoints}
 use Rattle.zdo_discovery.specs.Host.{Host, Asked}
 use Rattle.zdo_dispatcher.specs.Answers.{Answer, reply, leave, answered}
-use Rattle.demands.specs.OurDevice.{ourPools, ourDescriptors, ours}
+use Rattle.our_device.specs.OurDevice.{ourPools, ourDevice, ours}
 
 -- what the definitions say; and what document 01 says, or where it is silent the Rust or docs/DECISIONS.md, as literals
 pub record Case : Type 0 where
@@ -35,7 +35,7 @@ asked cluster payload = record { cluster = cluster; payload = payload; room = 12
 
 -- the list that a match request finds in our device
 abbrev pub found : List ℕ → Outcome (List ℕ)
-found payload = andThen (matchDescReqIn payload) (λ q. matchingEndpoints ourPools ourDescriptors q payload)
+found payload = andThen (matchDescReqIn payload) (λ q. matchingEndpoints ourPools ourDevice q payload)
 
 -- ---- showing
 

@@ -14,7 +14,8 @@ use Rattle.zdo_readers.specs.Readers.{nodeDescRspIn, stackRevisionOf}
 use Rattle.zdo_device_rsp.specs.TableReplies.{simpleDescRsp}
 use Rattle.zdo_discovery.specs.Host.{Asked}
 use Rattle.zdo_dispatcher.specs.Answers.{answered, run, runTable}
-use Rattle.demands.specs.OurDevice.{ourNode, ourPower, ourPools, ourDescriptors, ours, endpointAt, deviceOf}
+use Rattle.our_device.specs.OurDevice.{ourNode, ourPower, ourPools, ourDevice, ours}
+use Rattle.demands.specs.Devices.{endpointAt, deviceOf}
 use Rattle.demands.specs.Cases.{Case, asked, found, heard, statusOf, powerShown, bindA, bindB, bindC}
 
 -- K1: a node reply with room, and in a buffer of 16 bytes
@@ -64,7 +65,7 @@ K4 =
 unfoldable pub K5 : Case
 K5 =
     record {
-      says = simpleDescRsp 7 (ours .«nwk_addr») ourPools ourDescriptors 1 ∷ [];
+      says = simpleDescRsp 7 (ours .«nwk_addr») ourPools ourDevice 1 ∷ [];
       expected =
           answer (0x07 ∷ 0x00 ∷ 0x34 ∷ 0x12 ∷ 0x0E ∷ 0x01 ∷ 0x04 ∷ 0x01 ∷ 0x02 ∷ 0x03 ∷ 0x01 ∷ 0x02 ∷ 0x00 ∷ 0x00 ∷ 0x02 ∷ 0x04 ∷ 0x01 ∷ 0x19 ∷ 0x00 ∷ [])
           ∷ [];

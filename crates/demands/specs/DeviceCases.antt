@@ -17,7 +17,8 @@ use Rattle.zdo_device.specs.declared.descriptor.EndpointDescriptor.{EndpointDes
 use Rattle.zdo_device.specs.declared.descriptor.DeviceDescriptorConfig.{DeviceDescriptorConfig}
 use Rattle.zdo_device.specs.declared.descriptor.OptionEndpoint.the-variants as optional
 use Rattle.zdo_device.specs.declared.descriptor.Side.the-variants.{Input, Output}
-use Rattle.demands.specs.OurDevice.{endpoint1, endpoint2, ourPools, ourDescriptors, endpointAt, deviceOf}
+use Rattle.our_device.specs.OurDevice.{endpoint1, endpoint2, ourPools, ourDevice}
+use Rattle.demands.specs.Devices.{endpointAt, deviceOf}
 use Rattle.demands.specs.Cases.{Case, found}
 
 -- a list that is shorter than the buffer: how many are written, and the buffer then; the buffer after a refusal. Another
@@ -222,10 +223,10 @@ unfoldable pub Parts : Case
 Parts =
     record {
       says =
-          answer (endpointClusters ourPools ourDescriptors Input 2)
-          ∷ answer (endpointClusters ourPools ourDescriptors Output 1)
-          ∷ answer (endpointClusters ourPools ourDescriptors Input 3)
-          ∷ answer (endpointClusters (record { inputs = ourPools .inputs; outputs = [] }) ourDescriptors Input 2)
+          answer (endpointClusters ourPools ourDevice Input 2)
+          ∷ answer (endpointClusters ourPools ourDevice Output 1)
+          ∷ answer (endpointClusters ourPools ourDevice Input 3)
+          ∷ answer (endpointClusters (record { inputs = ourPools .inputs; outputs = [] }) ourDevice Input 2)
           ∷ answer (endpointClusters (record { inputs = ourPools .inputs; outputs = 0x0019 ∷ 0x0020 ∷ [] }) apart Input 4)
           ∷ answer (endpointClusters (record { inputs = ourPools .inputs; outputs = 0x0019 ∷ 0x0020 ∷ [] }) apart Output 4)
           ∷ [];
@@ -256,18 +257,18 @@ TableChecks =
           ∷ mapped (λ bytes. length bytes ∷ []) (simpleDescRsp 7 (shortOf 0x1234) ourPools (startingAt 4 1) 1)
           ∷ simpleDescRsp 7 (shortOf 0x1234) ourPools (startingAt 5 1) 1
           ∷ simpleDescRsp 7 (shortOf 0x1234) ourPools (startingAt 4 2) 1
-          ∷ simpleDescRsp 7 (shortOf 0x1234) (record { inputs = 0x0000 ∷ []; outputs = ourPools .outputs }) ourDescriptors 3
+          ∷ simpleDescRsp 7 (shortOf 0x1234) (record { inputs = 0x0000 ∷ []; outputs = ourPools .outputs }) ourDevice 3
           ∷ simpleDescRsp 7 (shortOf 0x1234) ourPools (ofCount 33) 1
-          ∷ simpleDescRsp 7 (shortOf 0x1234) (record { inputs = replicate 513 0x0006; outputs = ourPools .outputs }) ourDescriptors 3
-          ∷ simpleDescRsp 7 (shortOf 0x1234) (record { inputs = ourPools .inputs; outputs = replicate 513 0x0019 }) ourDescriptors 3
-          ∷ simpleDescRsp 7 (shortOf 0x1234) (record { inputs = replicate 512 0x0006; outputs = replicate 512 0x0019 }) ourDescriptors 3
+          ∷ simpleDescRsp 7 (shortOf 0x1234) (record { inputs = replicate 513 0x0006; outputs = ourPools .outputs }) ourDevice 3
+          ∷ simpleDescRsp 7 (shortOf 0x1234) (record { inputs = ourPools .inputs; outputs = replicate 513 0x0019 }) ourDevice 3
+          ∷ simpleDescRsp 7 (shortOf 0x1234) (record { inputs = replicate 512 0x0006; outputs = replicate 512 0x0019 }) ourDevice 3
           ∷ mapped (λ xs. length xs ∷ []) (matchedRecords ourPools (replicate 32 endpoint1) (standing 0 2) (0x02 ∷ 0x04 ∷ []))
           ∷ mapped (λ xs. length xs ∷ []) (matchedRecords ourPools (replicate 33 endpoint1) (standing 0 2) (0x02 ∷ 0x04 ∷ []))
           ∷ matchingEndpoints ourPools (ofCount 33) (standing 0 2) (0x02 ∷ 0x04 ∷ [])
-          ∷ matchingEndpoints (record { inputs = ourPools .inputs; outputs = [] }) ourDescriptors (standing 1 2) (0x02 ∷ 0x04 ∷ [])
-          ∷ matchingEndpoints ourPools ourDescriptors (standing 0 2) (0x02 ∷ 0x04 ∷ [])
-          ∷ matchingEndpoints ourPools ourDescriptors (standing 1 2) (0x02 ∷ 0x04 ∷ [])
-          ∷ matchingEndpoints ourPools ourDescriptors (standing 0 3) (0x02 ∷ 0x04 ∷ [])
+          ∷ matchingEndpoints (record { inputs = ourPools .inputs; outputs = [] }) ourDevice (standing 1 2) (0x02 ∷ 0x04 ∷ [])
+          ∷ matchingEndpoints ourPools ourDevice (standing 0 2) (0x02 ∷ 0x04 ∷ [])
+          ∷ matchingEndpoints ourPools ourDevice (standing 1 2) (0x02 ∷ 0x04 ∷ [])
+          ∷ matchingEndpoints ourPools ourDevice (standing 0 3) (0x02 ∷ 0x04 ∷ [])
           ∷ [];
       expected =
           refusal 1

@@ -12,7 +12,8 @@ use Rattle.aps_binding_table.specs.Table.{emptyTable}
 use Rattle.zdo_requests.specs.Requests.{nodeDescReq}
 use Rattle.zdo_discovery.specs.Host.{Host, Asked, asking}
 use Rattle.zdo_dispatcher.specs.Answers.{Told, replied, leaving, toldOf, answered, bufferAfter, run, runTable}
-use Rattle.demands.specs.OurDevice.{ourPower, ourPools, ourDescriptors, ours, endpoint1, endpoint2, endpointAt, deviceOf, hostOf}
+use Rattle.our_device.specs.OurDevice.{ourPower, ourPools, ourDevice, ours, endpoint1, endpoint2}
+use Rattle.demands.specs.Devices.{endpointAt, deviceOf, hostOf}
 use Rattle.demands.specs.Cases.{Case, asked, heard, statusOf, bindHead, bindA, bindB, bindC, tried, replies, counting, joined, nodeOf, triedOn}
 
 -- a NWK_addr_req for our IEEE address, of a type
@@ -63,7 +64,7 @@ IeeeAddr =
 abbrev pub elsewhere : LogicalType → Outcome (List ℕ)
 elsewhere t =
     triedOn
-    (hostOf (record { node = nodeOf t; power = ourPower; endpoints = ourDescriptors .endpoints; «endpoint_count» = 2 }) ourPools)
+    (hostOf (record { node = nodeOf t; power = ourPower; endpoints = ourDevice .endpoints; «endpoint_count» = 2 }) ourPools)
     (emptyTable 32)
     0x0002
     (0x07 ∷ 0x78 ∷ 0x56 ∷ [])
@@ -193,8 +194,8 @@ HostTables =
           ∷ triedOn halfHost (emptyTable 32) 0x0021 (take 9 bindA ++ 0x02 ∷ drop 10 bindA) 128
           ∷ mapped (λ xs. take 6 xs ++ length xs ∷ []) (triedOn fullHost (emptyTable 32) 0x0006 matchA 37)
           ∷ triedOn fullHost (emptyTable 32) 0x0006 matchA 36
-          ∷ triedOn (hostOf ourDescriptors (record { inputs = ourPools .inputs; outputs = [] })) (emptyTable 32) 0x0007 [] 0
-          ∷ triedOn (hostOf ourDescriptors (record { inputs = replicate 513 0x0006; outputs = ourPools .outputs })) (emptyTable 32) 0x0007 [] 0
+          ∷ triedOn (hostOf ourDevice (record { inputs = ourPools .inputs; outputs = [] })) (emptyTable 32) 0x0007 [] 0
+          ∷ triedOn (hostOf ourDevice (record { inputs = replicate 513 0x0006; outputs = ourPools .outputs })) (emptyTable 32) 0x0007 [] 0
           ∷ [];
       expected =
           answer (0x8005 ∷ 0x07 ∷ 0x00 ∷ 0x34 ∷ 0x12 ∷ 0x01 ∷ 0x01 ∷ [])

@@ -1,4 +1,4 @@
-pub mod OurDevice
+pub mod Devices
 pub mod Cases
 pub mod CounterCases
 pub mod DispatchCases

@@ -9,7 +9,8 @@ use Rattle.zdo_device.specs.declared.descriptor.DeviceDescriptorConfig.{DeviceD
 use Rattle.zdo_matching.specs.Matching.{matchingEndpoints}
 use Rattle.zdo_matching.specs.Answers.{matchingSays}
 use Rattle.zdo_matching.specs.declared.descriptor.Matching.the-variants.{Matched, Refused}
-use Rattle.demands.specs.OurDevice.{ourPools, ourDescriptors, endpointAt, deviceOf}
+use Rattle.our_device.specs.OurDevice.{ourPools, ourDevice}
+use Rattle.demands.specs.Devices.{endpointAt, deviceOf}
 use Rattle.demands.specs.Cases.{Case, found}
 use Rattle.demands.specs.DeviceCases.{requesting, standing, numberedPools, numbered, ofCount}
 
@@ -89,8 +90,8 @@ PlaceChecks =
           ∷ matchingEndpoints numberedPools numbered (requesting 0x0104 0 1 0 1) (0x06 ∷ 0x20 ∷ [])
           ∷ matchingEndpoints numberedPools numbered (requesting 0x0104 4 1 2 1) (0x06 ∷ 0x00 ∷ 0x06 ∷ 0x20 ∷ 0x06 ∷ 0x00 ∷ [])
           ∷ matchingEndpoints ourPools (ofCount 33) (standing 1 2) (0x02 ∷ 0x04 ∷ [])
-          ∷ matchingEndpoints ourPools ourDescriptors (requesting 0x0104 0 0 0 0) []
-          ∷ matchingEndpoints (record { inputs = ourPools .inputs; outputs = [] }) ourDescriptors (requesting 0x0104 0 0 0 0) []
+          ∷ matchingEndpoints ourPools ourDevice (requesting 0x0104 0 0 0 0) []
+          ∷ matchingEndpoints (record { inputs = ourPools .inputs; outputs = [] }) ourDevice (requesting 0x0104 0 0 0 0) []
           ∷ [];
       expected =
           answer (241 ∷ [])
@@ -107,7 +108,7 @@ PlaceChecks =
 
 -- two endpoints that match
 abbrev pub both : Outcome (List ℕ)
-both = matchingEndpoints ourPools ourDescriptors (standing 0 2) (0x00 ∷ 0x00 ∷ [])
+both = matchingEndpoints ourPools ourDevice (standing 0 2) (0x00 ∷ 0x00 ∷ [])
 
 -- they are written into three bytes, into two and into none: how many, and the buffer then
 unfoldable pub Buffers : Case

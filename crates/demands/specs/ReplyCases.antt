@@ -9,7 +9,7 @@ use Rattle.zigbee_types.specs.declared.ShortAddress.{ShortAddress}
 use Rattle.node_descriptor.specs.declared.LogicalType.the-variants as type
 use Rattle.simple_descriptor.specs.SimpleDescriptor.{endpointWith}
 use Rattle.zdo_replies.specs.Replies.{nodeDescRsp, powerDescRsp, descriptorRspError, listRsp, emptyRsp, matchDescRspError, describedRsp, addrRspSingle, addrRspExtended, addrRsp, statusRsp}
-use Rattle.demands.specs.OurDevice.{ourPower}
+use Rattle.our_device.specs.OurDevice.{ourPower}
 use Rattle.demands.specs.Cases.{Case, nodeOf}
 
 -- an address of interest

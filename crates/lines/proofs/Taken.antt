@@ -1,9 +1,9 @@
 -- Characters of a chunk, taken one by one. Assumes nothing.
-use Prim.Native.Nat.{ℕ, _+_, _≤_, _<_}
+use Prim.Native.Nat.{ℕ, suc, _+_, _≤_, _<_}
 use native.Mathlib.Numerals.{add-one}
 use native.Mathlib.Omega.{arith}
 use mathlib.Core.Path.{_≡_, refl, sym, _∙_}
-use mathlib.Core.Bool.{cond}
+use mathlib.Core.Bool.{Bool, true, false, cond}
 use mathlib.Core.List.{List, [], _∷_}
 use lib.Dec.{eqb}
 use lib.ListN.{length, getD, drop, drop-of-length-le, length-set}
@@ -86,3 +86,21 @@ module _ {p q : Pending} {chunk : List ℕ} {at i : ℕ} (g : Going p chunk at i
         moved = rw (g .taken, none) (omega arith);
         left = rw (g .rest, none);
       }
+
+-- ---- for whoever goes on until a chunk is used up
+
+-- where there are characters, one is taken
+split-moves : (p : Pending) (c : ℕ) (chunk : List ℕ) → 0 < split p (c ∷ chunk) .taken
+unfolding split later
+split-moves p c chunk = go (eqb c LINE-FEED)
+  where
+    go : (t : Bool) → 0 < cond t (record { found = ended p; rest = pending 0 (p .buffer); taken = 1 }) (later (split (grown p c) chunk)) .taken
+    go true = omega arith
+    go false = omega arith
+
+pub next-moves :
+    (p : Pending) (chunk : List ℕ) (at : ℕ) {r : Split} {after : List ℕ} → Splits (split p (drop at chunk)) at r after → at < length chunk → at < r .at
+next-moves p chunk at s h =
+    let some = split-moves p (getD chunk at 0) (drop (suc at) chunk) in
+    let moves : 0 < split p (drop at chunk) .taken = rw (drop-cons chunk at 0 h) some in
+    omega (arith, s .moved)

@@ -20,7 +20,7 @@ mod-byte m x =
     (omega (arith, mul-div-le (x / 256) m))
 
 -- where all of a list are bytes, the first is one, and so are the others
-first-byte : (b : ℕ) (bs : List ℕ) → areBytes (b ∷ bs) ≡ true → (b < 256) × (areBytes bs ≡ true)
+pub first-byte : (b : ℕ) (bs : List ℕ) → areBytes (b ∷ bs) ≡ true → (b < 256) × (areBytes bs ≡ true)
 unfolding all
 first-byte b bs h = let (p, q) = and-eq-true-iff (ltb b 256) (areBytes bs) .0 h in (ltb-true b 256 p, q)
 

@@ -1,12 +1,14 @@
--- Outcomes: a test that is made before an answer, and what it says that a writer told a length. Assumes nothing.
-use Prim.Native.Nat.{ℕ, _≤_}
+-- Outcomes: a test that is made before an answer, bytes that a writer stored or had no room for, and what it says that a writer told a
+-- length. Assumes nothing.
+use Prim.Native.Nat.{ℕ, _+_, _≤_, _<_}
 use native.Mathlib.Omega.{arith}
 use mathlib.Core.Path.{_≡_, refl, sym}
 use mathlib.Core.Bool.{Bool, true, false, cond}
 use mathlib.Core.List.{List, _++_}
 use lib.Dec.{leb}
-use lib.ListN.{length, drop}
-use borrow.Author.Tests.{leb-true}
+use lib.ListN.{length, drop, length-append, length-drop}
+use lib.Seq.{sets, sets-eq}
+use borrow.Author.Tests.{leb-true, le-leb, lt-leb}
 use Rattle.zigbee_types.specs.Outcome.{Outcome, answer, refusal, andThen, mapped, needing, fitted, written, Wrote}
 
 -- ---- a test
@@ -46,6 +48,28 @@ pub wrote-refused : (n : ℕ) (before : List ℕ) → Wrote (refusal n) before (
 unfolding mapped fitted written
 wrote-refused n before = record { said = refl; left = refl }
 
+-- bytes that are stored from the front of a buffer on, where there is room for them, stand there before what stood behind them
+pub stored-front : (bytes before : List ℕ) → length bytes ≤ length before → sets before 0 bytes ≡ bytes ++ drop (length bytes) before
+stored-front bytes before room =
+    let front : 0 + length bytes ≡ length bytes = omega arith in
+    rw front at (sets-eq bytes before 0 (omega arith))
+
+-- so they are written
+pub wrote-stored :
+    (bytes : List ℕ) {before after : List ℕ} {told : ℕ}
+    → told ≡ length bytes
+    → after ≡ sets before 0 bytes
+    → length bytes ≤ length before
+    → Wrote (answer bytes) before (answer told) after
+unfolding mapped fitted written
+wrote-stored bytes {before} long left room =
+    record { said = rw (le-leb _ _ room, long); left = rw (le-leb _ _ room, left) (stored-front bytes before room) }
+
+-- and refused where there is none
+pub wrote-full : (bytes before : List ℕ) → length before < length bytes → Wrote (answer bytes) before (refusal 5) before
+unfolding mapped fitted written
+wrote-full bytes before full = record { said = rw (lt-leb _ _ full); left = rw (lt-leb _ _ full) }
+
 -- bytes stand at the front of a buffer, before what stood behind them, and their length is told
 pub record Stands (bytes before : List ℕ) (told : ℕ) (after : List ℕ) : Type 0 where
   pub long : told ≡ length bytes
@@ -68,3 +92,27 @@ pub wrote-answer :
 unfolding mapped fitted
 wrote-answer (answer bytes) w = (bytes, refl, wrote-bytes w)
 wrote-answer (refusal n) w = absurd (refused (sym (w .said)))
+
+-- the buffer stays as long as it is, and a length that was told is within it
+pub record Within (told : Outcome ℕ) (before after : List ℕ) : Type 0 where
+  pub same : length after ≡ length before
+  pub most : (n : ℕ) → told ≡ answer n → n ≤ length before
+
+pub wrote-within : (o : Outcome (List ℕ)) {before after : List ℕ} {told : Outcome ℕ} → Wrote o before told after → Within told before after
+unfolding mapped fitted written
+wrote-within (refusal k) w = record { same = rw (w .left); most = λ n e. absurd (refused (rw (w .said) at e)) }
+wrote-within (answer bytes) {before} {after} {told} w = go (leb (length bytes) (length before)) refl (w .said) (w .left)
+  where
+    go :
+        (fits : Bool)
+        → leb (length bytes) (length before) ≡ fits
+        → told ≡ mapped length (cond fits (answer bytes) (refusal 5))
+        → after ≡ written before (cond fits (answer bytes) (refusal 5))
+        → Within told before after
+    go true e said left =
+        let room = leb-true (length bytes) (length before) e in
+        record {
+          same = rw (left, length-append, length-drop) (omega arith);
+          most = λ n is. let long : n ≡ length bytes = cc in rw long room;
+        }
+    go false e said left = record { same = rw left; most = λ n is. absurd (refused (rw said at is)) }

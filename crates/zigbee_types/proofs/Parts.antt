@@ -5,7 +5,7 @@ use native.Mathlib.Omega.{arith}
 use mathlib.Core.Path.{_≡_}
 use mathlib.Core.List.{List, [], append-nil, append-assoc}
 use lib.ListN.{length, take, drop, length-drop, drop-of-length-le}
-use lib.Seq.{sets-eq, take-all, drop-drop}
+use lib.Seq.{sets, sets-eq, take-all, drop-drop}
 use borrow.Author.Tests.{le-leb}
 use borrow.Rule.Slice.PartMut.{midOf, putMid}
 use Rattle.zigbee_types.specs.Lists.{part}
@@ -35,15 +35,22 @@ module _ (m : ℕ) (t : List ℕ) where
         let room : length bytes ≤ length (drop m t) = rw length-drop (omega arith) in
         rw (part-whole, le-leb _ _ room) at (w .said)
 
-    -- and its fields are put in the whole buffer
+    -- and what it writes is stored in the whole buffer
+    pub part-stored :
+        (bytes : List ℕ) {n : ℕ}
+        → m + length bytes ≤ length t
+        → Wrote (answer bytes) (midOf m (length t - m) t) (answer n) v
+        → (n ≡ length bytes) × (putMid m (length t - m) t v ≡ sets t m bytes)
+    part-stored bytes h w =
+        let stands = wrote-bytes w in
+        (stands .long, rw (part-last, append-nil, stands .left, part-whole, drop-drop, sets-eq bytes t m h, append-assoc))
+
+    -- so are its fields
     pub part-put :
         (fs : List Field) {n : ℕ}
         → m + length (laid fs) ≤ length t
         → Wrote (answer (laid fs)) (midOf m (length t - m) t) (answer n) v
         → FieldsPut fs t m (m + n) (putMid m (length t - m) t v)
     part-put fs h w =
-        let stands = wrote-bytes w in
-        record {
-          moved = rw (stands .long);
-          left = rw (part-last, append-nil, stands .left, part-whole, drop-drop, sets-eq (laid fs) t m h, append-assoc);
-        }
+        let (long, stored) = part-stored (laid fs) h w in
+        record { moved = rw long; left = stored }

@@ -4,16 +4,16 @@ use Prim.Native.Nat.{ℕ, _+_, _≤_, _<_}
 use native.Mathlib.Omega.{arith}
 use mathlib.Core.Path.{_≡_, refl}
 use mathlib.Core.List.{List, [], _∷_, _++_, append-assoc, append-nil}
-use lib.ListN.{length, getD, drop, length-append}
-use lib.Seq.{sets, sets-eq}
+use lib.ListN.{length, getD, length-append}
 use borrow.Author.Tests.{le-leb, lt-leb}
-use Rattle.zigbee_types.specs.Outcome.{answer, refusal, needing, mapped, fitted, written, Wrote}
+use Rattle.zigbee_types.specs.Outcome.{answer, refusal, needing, Wrote}
 use Rattle.zigbee_types.specs.Bytes.{FieldRead, FieldPut}
 use Rattle.zigbee_types.specs.Layout.{Field, laid, FieldsPut, size, fieldsAt, parsed}
 use Rattle.zigbee_types.specs.FieldLaws.{widths}
 use Rattle.zigbee_types.proofs.Fields.{sets-append}
 use Rattle.zigbee_types.proofs.Layouts.{laid-counted}
 use Rattle.zigbee_types.proofs.Numbers.{le-counted}
+use Rattle.zigbee_types.proofs.Outcomes.{wrote-stored, wrote-full}
 
 -- ---- reading
 
@@ -128,17 +128,8 @@ pub run-writes :
     → FieldsPut fs s 0 n t
     → size (widths fs) ≤ length s
     → Wrote (answer (laid fs)) s (answer n) t
-unfolding mapped fitted written
-run-writes {fs} {s} {t} {n} p h =
-    let counted : 0 + length (laid fs) ≡ length (laid fs) = omega arith in
-    let room : length (laid fs) ≤ length s = rw (laid-counted fs) h in
-    let told : n ≡ length (laid fs) = omega (arith, p .moved) in
-    let behind : sets s 0 (laid fs) ≡ laid fs ++ drop (length (laid fs)) s = rw counted at (sets-eq (laid fs) s 0 (omega arith)) in
-    record { said = rw (le-leb _ _ room, told); left = rw (le-leb _ _ room, p .left) behind }
+run-writes {fs} p h = wrote-stored (laid fs) (omega (arith, p .moved)) (p .left) (rw (laid-counted fs) h)
 
 -- and refused where there is none
 pub run-full : (fs : List Field) (s : List ℕ) → length s < size (widths fs) → Wrote (answer (laid fs)) s (refusal 5) s
-unfolding mapped fitted written
-run-full fs s h =
-    let full : length s < length (laid fs) = rw (laid-counted fs) h in
-    record { said = rw (lt-leb _ _ full); left = rw (lt-leb _ _ full) }
+run-full fs s h = wrote-full (laid fs) s (rw (laid-counted fs) h)

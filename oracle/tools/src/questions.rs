@@ -6,7 +6,7 @@
 //! of up to one byte and all values of a telling byte, 18,660 for short sequences of binds and unbinds, and up to 200,000 for a
 //! server mask or the two bytes of a power descriptor.
 
-mod bindings;
+pub mod bindings;
 mod descriptors;
 mod device;
 pub mod dice;

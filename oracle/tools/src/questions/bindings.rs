@@ -24,22 +24,22 @@ pub fn arguments(name: &str) -> Option<Arguments> {
 
 /// An entry of the binding table.
 #[derive(Clone, Copy, PartialEq)]
-struct Entry {
-    source: u8,
-    cluster: u16,
-    to: To,
+pub struct Entry {
+    pub source: u8,
+    pub cluster: u16,
+    pub to: To,
 }
 
 /// Where an entry sends.
 #[derive(Clone, Copy, PartialEq)]
-enum To {
+pub enum To {
     Group(u16),
     Device(u64, u8),
 }
 
 impl Entry {
     /// Any entry. One in eight has zeros in all fields, but perhaps for the mode.
-    fn any(dice: &mut Dice) -> Entry {
+    pub fn any(dice: &mut Dice) -> Entry {
         let zeros = dice.one_in(8);
         let mut number = |bytes| if zeros { 0 } else { dice.number(bytes) };
         let (group, ieee, endpoint) = (number(2), number(8), number(1));
@@ -55,7 +55,7 @@ impl Entry {
     }
 
     /// This entry with one field changed: a bit of it, or the mode.
-    fn near(mut self, dice: &mut Dice) -> Entry {
+    pub fn near(mut self, dice: &mut Dice) -> Entry {
         let field = dice.below(5);
         match field {
             0 => self.source ^= 1 << dice.below(8),

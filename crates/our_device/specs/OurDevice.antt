@@ -1,8 +1,8 @@
--- The device of document 01's counter-cases.
-use Prim.Native.Nat.{ℕ, _-_}
+-- The device of document 01's counter-cases, and of the program `answer`.
+use Prim.Native.Nat.{ℕ}
 use mathlib.Core.Bool.{false}
-use mathlib.Core.List.{List, [], _∷_, _++_}
-use lib.ListN.{length, replicate}
+use mathlib.Core.List.{[], _∷_}
+use lib.ListN.{replicate}
 use Rattle.zigbee_types.specs.Addresses.{ieeeOf, shortOf}
 use Rattle.node_descriptor.specs.declared.descriptor.NodeDescriptorConfig.{NodeDescriptorConfig}
 use Rattle.node_power_descriptor.specs.declared.descriptor.PowerDescriptorConfig.{PowerDescriptorConfig}
@@ -13,7 +13,7 @@ use Rattle.power_names.specs.declared.CurrentPowerSourceLevel.the-variants.{Two
 use Rattle.zdo_device.specs.Tables.{Pools}
 use Rattle.zdo_device.specs.declared.descriptor.EndpointDescriptor.{EndpointDescriptor}
 use Rattle.zdo_device.specs.declared.descriptor.DeviceDescriptorConfig.{DeviceDescriptorConfig}
-use Rattle.zdo_discovery.specs.Host.{Host}
+use Rattle.zdo_discovery.specs.Host.{Host, hostWith}
 
 -- end device, band 8, MAC 0x80, maker 0xABCD, buffer 0x52, sizes 0x0080, server mask 0x2C00, capabilities 0
 abbrev pub ourNode : NodeDescriptorConfig
@@ -74,23 +74,10 @@ endpoint2 =
 abbrev pub ourPools : Pools
 ourPools = record { inputs = 0x0000 ∷ 0x0402 ∷ 0x0000 ∷ 0x0500 ∷ []; outputs = 0x0019 ∷ [] }
 
--- a record of our profile: its number, then start and count of its inputs, start and count of its outputs
-abbrev pub endpointAt : ℕ → ℕ → ℕ → ℕ → ℕ → EndpointDescriptor
-endpointAt n from inputs out outputs =
-    record { endpoint = n; «device_version» = 0; «profile_id» = 0x0104; «device_id» = 0x0302; «input_start» = from; «input_count» = inputs; «output_start» = out; «output_count» = outputs }
+-- endpoints 1 and 2; what stands behind them does not matter
+abbrev pub ourDevice : DeviceDescriptorConfig
+ourDevice = record { node = ourNode; power = ourPower; endpoints = endpoint1 ∷ replicate 31 endpoint2; «endpoint_count» = 2 }
 
--- our node and power with these records, of which so many are in use; what stands behind them does not matter
-abbrev pub deviceOf : List EndpointDescriptor → ℕ → DeviceDescriptorConfig
-deviceOf records n = record { node = ourNode; power = ourPower; endpoints = records ++ replicate (32 - length records) endpoint2; «endpoint_count» = n }
-
--- endpoints 1 and 2
-abbrev pub ourDescriptors : DeviceDescriptorConfig
-ourDescriptors = deviceOf (endpoint1 ∷ endpoint2 ∷ []) 2
-
--- a device with our addresses: IEEE 0x0102030405060708, short 0x1234
-abbrev pub hostOf : DeviceDescriptorConfig → Pools → Host
-hostOf device pools = record { device = device; «ieee_addr» = ieeeOf 0x0102_0304_0506_0708; «nwk_addr» = shortOf 0x1234; pools = pools }
-
--- our device
+-- our device, with its addresses: IEEE 0x0102030405060708, short 0x1234
 abbrev pub ours : Host
-ours = hostOf ourDescriptors ourPools
+ours = hostWith ourDevice (ieeeOf 0x0102_0304_0506_0708) (shortOf 0x1234) ourPools

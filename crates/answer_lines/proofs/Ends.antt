@@ -1,0 +1,74 @@
+-- A line feed behind a text, and texts behind one another. Assumes nothing.
+use Prim.Native.Nat.{ℕ, _+_, _-_, _^_, _≤_, _<_}
+use native.Mathlib.Numerals.{add-one}
+use native.Mathlib.Omega.{arith}
+use mathlib.Core.Path.{_≡_, refl, sym, _∙_}
+use mathlib.Core.List.{List, [], _∷_, _++_, append-assoc, append-nil}
+use lib.ListN.{length, take, drop, set, length-append, length-drop}
+use lib.Seq.{take-all, length-take-le, set-at, drop-cons}
+use mir.Syntax.{w64}
+use mir.Val.{Fits}
+use borrow.Author.Tests.{le-leb}
+use borrow.Rule.Slice.PartMut.{midOf, putMid}
+use Rattle.zigbee_types.specs.Answers.{writtenSays}
+use Rattle.zigbee_types.specs.Outcome.{Outcome, answer, refusal, mapped, fitted, written, Wrote}
+use Rattle.zigbee_types.specs.declared.Refusal.{Refusal}
+use Rattle.zigbee_types.specs.declared.Written.{Written}
+use Rattle.zigbee_types.specs.declared.Written.the-variants.{Length, Refused}
+use Rattle.zigbee_types.proofs.Outcomes.{wrote-bytes}
+use Rattle.lines.specs.Lines.{LINE-FEED}
+use Rattle.answer_lines.specs.Session.{lineEnd, Ends}
+
+-- ---- the code that puts it
+
+-- the front of a buffer: all of it, where more is asked for; otherwise as many as are asked for
+module _ (n : ℕ) (buffer : List ℕ) where
+  pub front-all : length buffer < n → buffer ≡ take n buffer
+  front-all h = sym (take-all n buffer (omega arith))
+
+  pub front-part : n ≤ length buffer → n ≡ length (take n buffer)
+  front-part h = sym (length-take-le n buffer h)
+
+module _ (w : Written) (out : List ℕ) {n : ℕ} (is : w ≡ Length n) where
+  -- there is a place for it
+  pub end-place : ((k : ℕ) → writtenSays w ≡ answer k → k < length out) → n < length out
+  unfolding writtenSays
+  end-place inside = inside n (rw is)
+
+  -- and its length is a number that the machine has
+  pub end-fits : length out < 2 ^ 64 → ((k : ℕ) → writtenSays w ≡ answer k → k < length out) → Fits w64 (n + 1)
+  end-fits short inside = let place = end-place inside in record { fits = omega arith }
+
+  pub end-put : Ends (writtenSays w) out (writtenSays (Length (n + 1))) (set out n LINE-FEED)
+  unfolding writtenSays lineEnd mapped
+  end-put = rw is (record { said = refl; left = refl })
+
+pub end-none : (w : Written) (out : List ℕ) (why : Refusal) → w ≡ Refused why → Ends (writtenSays w) out (writtenSays (Refused why)) out
+unfolding writtenSays lineEnd mapped
+end-none w out why is = rw is (record { said = refl; left = refl })
+
+-- ---- what it makes of a text
+
+module _ (text : List ℕ) {before middle : List ℕ} {told : Outcome ℕ} (w : Wrote (answer text) before told middle) where
+  -- a text that has room is told by its length, and stands at the front
+  module _ (room : length text ≤ length before) where
+    pub text-told : told ≡ answer (length text)
+    unfolding mapped fitted
+    text-told = rw (le-leb _ _ room) at (w .said)
+
+    pub text-stands : middle ≡ text ++ drop (length text) before
+    unfolding fitted written
+    text-stands = rw (le-leb _ _ room) at (w .left)
+
+  -- with a line feed it is one character longer
+  pub text-ended :
+      {more : Outcome ℕ} {after : List ℕ} → length text < length before → Ends told middle more after → Wrote (answer (text ++ (LINE-FEED ∷ []))) before more after
+  unfolding mapped fitted written lineEnd
+  text-ended {more} {after} h e =
+      let room : length text ≤ length before = omega arith in
+      let fits : length (text ++ (LINE-FEED ∷ [])) ≤ length before = rw length-append (omega arith) in
+      record {
+        said = rw (le-leb _ _ fits, e .said, text-told room, length-append);
+        left =
+            rw (le-leb _ _ fits, e .left, text-told room, text-stands room, drop-cons before (length text) 0 h, set-at text _ _ LINE-FEED (length text) refl, length-append, append-assoc, add-one);
+      }

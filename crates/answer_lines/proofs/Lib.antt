@@ -1,0 +1,8 @@
+pub mod Texts
+pub mod Heard
+pub mod Parsed
+pub mod Ends
+pub mod Closing
+pub mod Found
+pub mod Chunks
+pub mod OneOutcome

@@ -1,0 +1,19 @@
+-- `end_line` meets its contract: behind a text, and where there is none. Assumes nothing.
+use borrow.Author.Needs.{needs}
+use Rattle.answer_lines.proofs.Ends.{end-place, end-fits, end-put, end-none}
+use Rattle.answer_lines.proofs.session.end_line.Statement.{statement}
+use Rattle.answer_lines.proofs.session.end_line.Tie as tie
+
+ruleset laws = (needs, end-place, end-fits, end-put, end-none)
+
+pub end-line-spec : {M : Type 1} → statement M
+end-line-spec =
+    tie.close
+    (tie.spec
+    (λ c. search laws)  -- enum-known-written
+    (λ c. search laws)  -- slice-write-out
+    (λ c. search laws)  -- add-t7
+    (λ c. search laws)  -- enum-known-written-2
+    (λ c. search laws)  -- same-length
+    (λ c. search laws)  -- returns
+    (λ c. search laws))  -- returns-2

@@ -1,0 +1,205 @@
+// What the program `answer` writes for a line, and at the end of its input (document 01, "Counter-cases").
+use aps_binding_table::binding::BindingTable;
+use decimal::write_decimal;
+use hex_lines::ParsedLine;
+use hex_lines::parse_line;
+use hex_lines::write_line;
+use lines::splitter::Found;
+use our_device::our_response;
+use zdo_dispatcher::dispatcher::Response;
+use zigbee_types::Refusal;
+use zigbee_types::Written;
+ghost use Prim.Native.Nat.{ℕ, _<_, _≤_};
+ghost use mathlib.Core.Path.{_≡_};
+ghost use lib.ListN.{length, take};
+ghost use Rattle.zigbee_types.specs.Answers.{writtenSays};
+ghost use Rattle.zigbee_types.specs.Outcome.{answer, Wrote};
+ghost use Rattle.zigbee_types.specs.Refusals.{refusalNumber};
+ghost use Rattle.lines.specs.Chunks.{foundLine};
+ghost use Rattle.lines.specs.Lines.{whole};
+ghost use Rattle.our_device.specs.OurDevice.{ours};
+ghost use Rattle.answer_lines.specs.Session.{heard, said, spoken, countText, closing, withText, refusalText, responseText, Tells, Ends, Speaks};
+
+// The longest line, without its line feed.
+pub const LINE: usize = 4096;
+
+// The longest text, with its line feed: that of the longest reply.
+pub const TEXT: usize = 262;
+
+// How many bytes the reply's buffer has.
+const REPLY: usize = 128;
+
+// The longest payload of a line.
+const PAYLOAD: usize = 2045;
+
+// The binding table after a line, and how much text was written, or why none was.
+pub struct Answered {
+    pub table: BindingTable,
+    pub written: Written,
+}
+
+// ---- texts, without the line feed
+
+// Writes a text at the front of a buffer.
+fn write_text(text: &[u8], out: &mut [u8]) -> Written
+    ensures { λ r. ⌜ Wrote (answer (now (text .entry))) (now (out .entry)) (writtenSays r) (now (out .exit)) ⌝ }
+{
+    if out.len() < text.len() {
+        return Written::Refused(Refusal::ShortBuffer);
+    }
+    let mut i: usize = 0;
+    while i < text.len() {
+        out[i] = text[i];
+        i += 1;
+    }
+    Written::Length(i)
+}
+
+// Writes a refusal: `R` and its number.
+fn write_refusal(why: Refusal, out: &mut [u8]) -> Written
+    ensures { λ r. ⌜ Wrote (answer (refusalText (refusalNumber why))) (now (out .entry)) (writtenSays r) (now (out .exit)) ⌝ }
+{
+    if out.len() < 2 {
+        return Written::Refused(Refusal::ShortBuffer);
+    }
+    out[0] = b'R';
+    out[1] = 48 + why.number();
+    Written::Length(2)
+}
+
+// Writes what a request came to; of a reply, its bytes stand at the front of a buffer.
+fn write_response(response: Response, reply: &[u8], out: &mut [u8]) -> Written
+    requires { ⌜ ((cluster n : ℕ) → response ≡ Response.Reply cluster n → n ≤ length (now reply)) ⌝ }
+    ensures { λ r. ⌜ Wrote (answer (responseText response (now (reply .entry)))) (now (out .entry)) (writtenSays r) (now (out .exit)) ⌝ }
+{
+    match response {
+        Response::Reply { cluster, length } => write_line(cluster, &reply[..length], out),
+        Response::Leave(_) => write_text(b"leave", out),
+        Response::Refused(why) => write_refusal(why, out),
+    }
+}
+
+// ---- one line
+
+// Answers a request.
+fn answer_request(table: BindingTable, cluster: u16, payload: &[u8], out: &mut [u8]) -> Answered
+    ensures { λ r. ⌜ Tells (heard ours table (record { cluster = cluster; payload = now (payload .entry) })) (now (out .entry)) (writtenSays (r .written)) (r .table) (now (out .exit)) ⌝ }
+{
+    let mut reply = [0u8; REPLY];
+    let responded = our_response(table, cluster, payload, &mut reply);
+    let response = responded.response;
+    let table = responded.table;
+    Answered {
+        table,
+        written: write_response(response, &reply, out),
+    }
+}
+
+// Answers a line that is not too long.
+fn answer_line(table: BindingTable, line: &[u8], out: &mut [u8]) -> Answered
+    requires { ⌜ length (now line) ≤ 4096 ⌝ }
+    ensures { λ r. ⌜ Tells (said ours table (whole (now (line .entry)))) (now (out .entry)) (writtenSays (r .written)) (r .table) (now (out .exit)) ⌝ }
+{
+    let mut payload = [0u8; PAYLOAD];
+    let parsed = parse_line(line, &mut payload);
+    match parsed {
+        ParsedLine::Request { cluster, length } => {
+            answer_request(table, cluster, &payload[..length], out)
+        }
+        ParsedLine::Other => Answered {
+            table,
+            written: write_text(b"?", out),
+        },
+        ParsedLine::Refused(_) => Answered {
+            table,
+            written: write_text(b"?", out),
+        },
+    }
+}
+
+// ---- with the line feed
+
+// Puts a line feed behind a text, where one was written.
+fn end_line(written: Written, out: &mut [u8]) -> Written
+    requires { ⌜ ((n : ℕ) → writtenSays written ≡ answer n → n < length (now out)) ⌝ }
+    ensures { λ r. ⌜ Ends (writtenSays written) (now (out .entry)) (writtenSays r) (now (out .exit)) ⌝ }
+{
+    match written {
+        Written::Length(n) => {
+            out[n] = b'\n';
+            Written::Length(n + 1)
+        }
+        Written::Refused(why) => Written::Refused(why),
+    }
+}
+
+// The front of a buffer, of so many characters, or all of it where there are fewer.
+fn front(line: &[u8], count: usize) -> &[u8]
+    ensures { λ r. ⌜ now r ≡ take count (now (line .entry)) ⌝ }
+{
+    if count > line.len() {
+        return line;
+    }
+    &line[..count]
+}
+
+// Answers what the splitter found: writes the answer to a line at the front of a buffer, or nothing where no line has ended. A buffer
+// that has no room for the longest text is refused, and then nothing is written and the table is as it was.
+pub fn answer_found(
+    table: BindingTable,
+    found: Found,
+    line: &[u8; LINE],
+    out: &mut [u8],
+) -> Answered
+    ensures { λ r. ⌜ Speaks (spoken ours table (foundLine found (now (line .entry)))) table (now (out .entry)) (writtenSays (r .written)) (r .table) (now (out .exit)) ⌝ }
+{
+    if out.len() < TEXT {
+        return Answered {
+            table,
+            written: Written::Refused(Refusal::ShortBuffer),
+        };
+    }
+    match found {
+        Found::Line(count) => {
+            let answered = answer_line(table, front(line, count), out);
+            let table = answered.table;
+            let written = answered.written;
+            Answered {
+                table,
+                written: end_line(written, out),
+            }
+        }
+        Found::Overlong => Answered {
+            table,
+            written: write_text(b"?\n", out),
+        },
+        Found::Nothing => Answered {
+            table,
+            written: Written::Length(0),
+        },
+    }
+}
+
+// Writes how many entries the binding table holds, without the line feed, into a buffer that has room for the longest text.
+fn write_count(count: usize, out: &mut [u8]) -> Written
+    requires { ⌜ 262 ≤ length (now out) ⌝ }
+    ensures { λ r. ⌜ Wrote (answer (countText count)) (now (out .entry)) (writtenSays r) (now (out .exit)) ⌝ }
+{
+    write_text(b"bindings ", out);
+    let digits = write_decimal(count as u64, &mut out[9..]);
+    match digits {
+        Written::Length(n) => Written::Length(9 + n),
+        Written::Refused(why) => Written::Refused(why),
+    }
+}
+
+// Writes the last line: how many entries the binding table holds. Too short a buffer is refused in the same way.
+pub fn write_closing(count: usize, out: &mut [u8]) -> Written
+    ensures { λ r. ⌜ Wrote (withText (length (now (out .entry))) (closing count)) (now (out .entry)) (writtenSays r) (now (out .exit)) ⌝ }
+{
+    if out.len() < TEXT {
+        return Written::Refused(Refusal::ShortBuffer);
+    }
+    let written = write_count(count, out);
+    end_line(written, out)
+}

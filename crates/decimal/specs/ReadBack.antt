@@ -1,0 +1,26 @@
+-- What digits stand for, and that those of a number stand for it, as statements. A term of each stands in proofs/.
+use Prim.Native.Nat.{ℕ, _+_, _-_, _*_, _<_, _≤_}
+use mathlib.Core.Path.{_≡_}
+use mathlib.Core.Bool.{true, _&&_}
+use mathlib.Core.List.{List, [], _∷_}
+use lib.Dec.{leb}
+use lib.ListN.{getD}
+use Rattle.zigbee_types.specs.Lists.{all}
+use Rattle.decimal.specs.Decimal.{decimal}
+
+-- the number that digits stand for behind those that stand for n
+unfoldable pub readOn : ℕ → List ℕ → ℕ
+readOn n [] = n
+readOn n (c ∷ rest) = readOn (10 * n + (c - 48)) rest
+
+-- the digits of a number stand for it
+abbrev pub DecimalReadsBack : Type 0
+DecimalReadsBack = (n : ℕ) → readOn 0 (decimal n) ≡ n
+
+-- each is one of `0` to `9`
+abbrev pub DecimalDigits : Type 0
+DecimalDigits = (n : ℕ) → all (λ c. leb 48 c && leb c 57) (decimal n) ≡ true
+
+-- and the first of more than one is no zero
+abbrev pub DecimalShort : Type 0
+DecimalShort = (n : ℕ) → 10 ≤ n → 48 < getD (decimal n) 0 0
