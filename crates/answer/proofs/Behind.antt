@@ -9,7 +9,7 @@ use borrow.Rule.Slice.PartMut.{midOf, putMid, mid-len, same-len-mid}
 use mir.Syntax.{w64}
 use mir.Val.{Fits}
 use Rattle.zigbee_types.specs.Answers.{writtenSays}
-use Rattle.zigbee_types.specs.Outcome.{Outcome, answer, Wrote}
+use Rattle.zigbee_types.specs.Outcome.{Outcome, Wrote}
 use Rattle.zigbee_types.specs.declared.Written.{Written}
 use Rattle.zigbee_types.specs.declared.Written.the-variants.{Length}
 use Rattle.zigbee_types.proofs.Outcomes.{wrote-within}

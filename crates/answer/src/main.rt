@@ -4,7 +4,9 @@
 use answer_lines::session::LINE;
 use answer_lines::session::TEXT;
 use answer_lines::session::answer_found;
-use answer_lines::session::write_closing;
+use answer_lines::session::answer_last;
+use answer_lines::session::first_table;
+use answer_lines::session::line_buffer;
 use aps_binding_table::binding::BindingTable;
 use libc::STDIN_FILENO;
 use libc::STDOUT_FILENO;
@@ -13,9 +15,6 @@ use lines::splitter::Splitter;
 use zigbee_types::Written;
 ghost use Prim.Native.Nat.{_≤_};
 ghost use lib.ListN.{length};
-
-// How many entries the binding table may hold.
-const LIMIT: usize = 32;
 
 // What is kept from chunk to chunk: the binding table, and how much of a line has begun.
 struct Session {
@@ -96,9 +95,7 @@ fn finish(session: Session, line: &[u8; LINE], out: &mut [u8]) {
     let splitter = session.splitter;
     let found = splitter.end(line);
     let table = session.table;
-    let waiting = answer_behind(table, found, line, out, 0);
-    write_out(out, waiting.end);
-    let written = write_closing(waiting.table.count, out);
+    let written = answer_last(table, found, line, out);
     if let Written::Length(n) = written {
         write_out(out, n);
     }
@@ -108,7 +105,7 @@ fn finish(session: Session, line: &[u8; LINE], out: &mut [u8]) {
 // input takes.
 fn answer_all(input: &mut [u8], line: &mut [u8; LINE], out: &mut [u8]) {
     let mut session = Session {
-        table: BindingTable::new(LIMIT),
+        table: first_table(),
         splitter: Splitter::new(),
     };
     let mut turns = u64::MAX;
@@ -127,6 +124,6 @@ fn answer_all(input: &mut [u8], line: &mut [u8; LINE], out: &mut [u8]) {
 fn main() {
     let mut input = io::large_buffer();
     let mut out = io::large_buffer();
-    let mut line = [0u8; LINE];
+    let mut line = line_buffer();
     answer_all(&mut input, &mut line, &mut out);
 }

@@ -1,93 +1,145 @@
--- The last line: the count behind its word, in a buffer that has room for the longest text. Assumes nothing.
+-- The end of the input: the number of bindings behind its word, its line feed, and both behind the answer to the last line. Assumes
+-- nothing.
 use Prim.Native.Nat.{ℕ, _+_, _-_, _^_, _≤_, _<_}
 use native.Mathlib.Omega.{arith}
-use mathlib.Core.Path.{_≡_, sym, ap, _∙_}
-use mathlib.Core.List.{List, _++_}
-use lib.ListN.{length, drop, length-append, length-drop}
-use lib.Seq.{sets}
-use borrow.Author.Tests.{le-leb, lt-leb}
-use borrow.Rule.Slice.PartMut.{midOf, putMid}
+use mathlib.Core.Path.{_≡_, refl, sym}
+use mathlib.Core.List.{List}
+use lib.ListN.{length, take, drop, set, length-append}
+use lib.Seq.{take-at, length-take-le}
+use borrow.Author.Tests.{le-leb}
+use borrow.Rule.Slice.PartMut.{midOf, putMid, mid-len}
 use mir.Syntax.{w64}
 use mir.Val.{Fits}
 use Rattle.zigbee_types.specs.Answers.{writtenSays}
-use Rattle.zigbee_types.specs.Outcome.{Outcome, answer, Wrote}
+use Rattle.zigbee_types.specs.Outcome.{Outcome, answer, mapped, Wrote}
 use Rattle.zigbee_types.specs.declared.Refusal.{Refusal}
-use Rattle.zigbee_types.specs.declared.Refusal.the-variants.{ShortBuffer}
 use Rattle.zigbee_types.specs.declared.Written.{Written}
 use Rattle.zigbee_types.specs.declared.Written.the-variants.{Length, Refused}
-use Rattle.zigbee_types.proofs.Outcomes.{refused, stored-front, wrote-refused, wrote-stored}
-use Rattle.zigbee_types.proofs.Fields.{sets-append}
-use Rattle.zigbee_types.proofs.Parts.{part-told, part-stored}
+use Rattle.zigbee_types.proofs.Outcomes.{refused, wrote-bytes, wrote-within}
+use Rattle.aps_binding_table.specs.declared.binding.BindingTable.{BindingTable}
+use Rattle.lines.specs.Lines.{LINE-FEED, Line}
 use Rattle.decimal.specs.Decimal.{decimal}
 use Rattle.decimal.proofs.Digits.{length-below}
-use Rattle.answer_lines.specs.Session.{BINDINGS, countText, closing, withText, Ends}
-use Rattle.answer_lines.proofs.Ends.{text-told, text-stands, text-ended}
+use Rattle.our_device.specs.OurDevice.{ours}
+use Rattle.answer_lines.specs.Session.{BINDINGS, countText, closing, spoken, session, withText, tableThen, lineEnd, Speaks}
+use Rattle.answer_lines.proofs.Ends.{text-told, text-ended, more-told, both-written}
 
 -- a number of the machine has at most 20 digits
 digits-few : (n : ℕ) → n < 2 ^ 64 → length (decimal n) ≤ 20
 digits-few n h = length-below 19 n (omega arith)
 
-module _ (n : ℕ) (small : n < 2 ^ 64) (d : Written) {before middle v : List ℕ} {told : Outcome ℕ} (room : 262 ≤ length before) (w : Wrote (answer BINDINGS) before told middle) (p : Wrote (answer (decimal n)) (midOf 9 (length middle - 9) middle) (writtenSays d) v) where
-  stood : middle ≡ BINDINGS ++ drop 9 before
-  stood = text-stands BINDINGS w (omega arith)
+-- ---- the number behind its word
 
-  long : length middle ≡ length before
-  long = rw (stood, length-append, length-drop) (omega arith)
+module _ (n : ℕ) (small : n < 2 ^ 64) (d : Written) {before middle v : List ℕ} {told : Outcome ℕ} (room : 30 ≤ length before) (w : Wrote (answer BINDINGS) before told middle) (p : Wrote (answer (decimal n)) (midOf 9 (length middle - 9) middle) (writtenSays d) v) where
+  word : Wrote (answer BINDINGS) before (answer 9) middle
+  word = rw (text-told BINDINGS w (omega arith)) at w
 
-  inside : 9 + length (decimal n) ≤ length middle
-  inside = omega (arith, long, digits-few n small)
+  both : 9 + length (decimal n) ≤ length before
+  both = omega (arith, digits-few n small)
 
-  there : writtenSays d ≡ answer (length (decimal n))
-  there = part-told 9 middle (decimal n) inside p
+  told-digits : writtenSays d ≡ answer (length (decimal n))
+  told-digits = more-told BINDINGS (decimal n) word both p
 
   module _ {k : ℕ} (is : d ≡ Length k) where
-    stored : (k ≡ length (decimal n)) × (putMid 9 (length middle - 9) middle v ≡ sets middle 9 (decimal n))
+    digits : answer k ≡ answer (length (decimal n))
     unfolding writtenSays
-    stored = part-stored 9 middle (decimal n) inside (rw is at p)
+    digits = rw is at told-digits
 
-    -- the length of the whole is a number of the machine
+    -- the length of both is a number of the machine
     pub count-fits : Fits w64 (9 + k)
-    count-fits = record { fits = omega (arith, stored .0, digits-few n small) }
+    count-fits =
+        let told = digits in
+        let long : k ≡ length (decimal n) = cc in
+        record { fits = omega (arith, digits-few n small) }
 
-    -- and the whole is written
-    pub count-written : Wrote (answer (countText n)) before (writtenSays (Length (9 + k))) (putMid 9 (length middle - 9) middle v)
+    pub count-written : Wrote (answer (countText n)) before (answer (9 + k)) (putMid 9 (length middle - 9) middle v)
     unfolding countText writtenSays
-    count-written =
-        let all : length (BINDINGS ++ decimal n) ≡ 9 + length (decimal n) = length-append BINDINGS (decimal n) in
-        let front : middle ≡ sets before 0 BINDINGS = stood ∙ sym (stored-front BINDINGS before (omega arith)) in
-        wrote-stored (BINDINGS ++ decimal n) (omega (arith, stored .0, all))
-        (stored .1 ∙ ap (λ (m : List ℕ). sets m 9 (decimal n)) front ∙ sets-append before 0 BINDINGS (decimal n))
-        (omega (arith, all, digits-few n small))
+    count-written = both-written BINDINGS (decimal n) word both p (rw is)
 
   -- the digits are not refused
-  pub count-refused : {why : Refusal} → d ≡ Refused why → Wrote (answer (countText n)) before (writtenSays (Refused why)) (putMid 9 (length middle - 9) middle v)
+  pub count-refused : {why : Refusal} → d ≡ Refused why → Wrote (answer (countText n)) before (answer 9) (putMid 9 (length middle - 9) middle v)
   unfolding writtenSays
-  count-refused is = absurd (refused (rw is at there))
+  count-refused is = absurd (refused (rw is at told-digits))
 
--- ---- the last line
+-- ---- its line feed
 
-module _ (count : ℕ) (out : List ℕ) where
-  -- a buffer without room for the longest text
-  pub closing-full : length out < 262 → Wrote (withText (length out) (closing count)) out (writtenSays (Refused ShortBuffer)) out
-  unfolding withText writtenSays
-  closing-full h = rw (lt-leb 262 (length out) h) (wrote-refused 5 out)
+module _ (count : ℕ) (small : count < 2 ^ 64) where
+  count-few : length (countText count) < 30
+  unfolding countText
+  count-few = rw length-append (omega (arith, digits-few count small))
 
-  module _ (small : count < 2 ^ 64) (room : 262 ≤ length out) {middle : List ℕ} {told : Outcome ℕ} (w : Wrote (answer (countText count)) out told middle) where
-    few : length (countText count) < 30
-    unfolding countText
-    few = rw length-append (omega (arith, digits-few count small))
+  closing-few : length (closing count) ≤ 30
+  unfolding closing
+  closing-few = rw length-append (omega (arith, count-few))
 
-    same : length middle ≡ length out
-    same = rw (text-stands (countText count) w (omega (arith, few)), length-append, length-drop) (omega (arith, few))
+  module _ {out middle : List ℕ} {end : ℕ} (room : 30 ≤ length out) (w : Wrote (answer (countText count)) out (answer end) middle) where
+    -- there is a place for it
+    pub closing-place : end < length middle
+    closing-place = omega (arith, count-few, wrote-bytes w .long, wrote-within _ w .same)
 
-    -- there is a place for its end
-    pub closing-place : (n : ℕ) → told ≡ answer n → n < length middle
-    closing-place n e =
-        let is : answer n ≡ answer (length (countText count)) = sym e ∙ text-told (countText count) w (omega (arith, few)) in
-        let long : n ≡ length (countText count) = cc in
-        omega (arith, few, same)
+    -- and the place behind it is a number of the machine
+    pub closing-fits : Fits w64 (end + 1)
+    closing-fits = record { fits = omega (arith, count-few, wrote-bytes w .long) }
 
-    -- and it is written
-    pub closing-written : {more : Outcome ℕ} {after : List ℕ} → Ends told middle more after → Wrote (withText (length out) (closing count)) out more after
-    unfolding withText closing
-    closing-written e = rw (le-leb 262 (length out) room) (text-ended (countText count) w (omega (arith, few)) e)
+    pub closing-written : Wrote (answer (closing count)) out (answer (end + 1)) (set middle end LINE-FEED)
+    unfolding closing mapped lineEnd
+    closing-written = text-ended (countText count) w (omega (arith, count-few)) (record { said = refl; left = refl })
+
+-- ---- behind the last line
+
+module _ (t : BindingTable) (lines : List Line) (d : Written) {out middle : List ℕ} {u : BindingTable} (room : 292 ≤ length out) (h : Speaks (spoken ours t lines) t out (writtenSays d) u middle) where
+  few : length (spoken ours t lines .text) ≤ 262
+  few = h .short (omega arith)
+
+  answered : Wrote (answer (spoken ours t lines .text)) out (writtenSays d) middle
+  unfolding withText mapped
+  answered = rw (le-leb 262 (length out) (omega arith)) at (h .wrote)
+
+  -- the answer is not refused
+  pub last-refused : {why : Refusal} → d ≡ Refused why → Wrote (answer (session ours t lines)) out (answer 0) middle
+  unfolding writtenSays
+  last-refused is = absurd (refused (rw is at (text-told _ answered (omega (arith, few)))))
+
+  module _ {n : ℕ} (is : d ≡ Length n) where
+    text : Wrote (answer (spoken ours t lines .text)) out (answer n) middle
+    unfolding writtenSays
+    text = rw is at answered
+
+    pub last-start : n ≤ length middle
+    last-start = omega (arith, few, wrote-bytes text .long, wrote-within _ text .same)
+
+    part : length (midOf n (length middle - n) middle) ≡ length middle - n
+    part = mid-len n (length middle) middle (omega arith)
+
+    -- there is room for the number
+    pub last-room : 30 ≤ length (midOf n (length middle - n) middle)
+    last-room = omega (arith, few, part, wrote-bytes text .long, wrote-within _ text .same)
+
+    module _ {k : ℕ} {v : List ℕ} (p : Wrote (answer (closing (u .count))) (midOf n (length middle - n) middle) (answer k) v) where
+      both-room : n + k ≤ length out
+      both-room = omega (arith, part, wrote-within _ p .most k refl, few, wrote-bytes text .long, wrote-within _ text .same)
+
+      pub last-fits : length out < 2 ^ 64 → Fits w64 (n + k)
+      last-fits short = record { fits = omega (arith, both-room) }
+
+      pub last-written : Wrote (answer (session ours t lines)) out (answer (n + k)) (putMid n (length middle - n) middle v)
+      unfolding session withText tableThen
+      last-written =
+          let table : u ≡ spoken ours t lines .table = rw (le-leb 262 (length out) (omega arith)) at (h .table) in
+          let same = rw table at p in
+          both-written (spoken ours t lines .text) (closing (spoken ours t lines .table .count)) text
+          (omega (arith, both-room, wrote-bytes text .long, wrote-bytes same .long)) same refl
+
+-- ---- from one buffer to another
+
+module _ (bytes : List ℕ) {before after : List ℕ} {n : ℕ} (w : Wrote (answer bytes) before (answer n) after) where
+  pub copy-within : n ≤ length after
+  copy-within = omega (arith, wrote-within _ w .same, wrote-within _ w .most n refl)
+
+  pub copy-long : n ≡ length (take n after)
+  copy-long = sym (length-take-le n after copy-within)
+
+  pub copy-written : {out later : List ℕ} {told : Outcome ℕ} → Wrote (answer (take n after)) out told later → Wrote (answer bytes) out told later
+  copy-written p =
+      let stands = wrote-bytes w in
+      rw (stands .long, stands .left, take-at bytes (drop (length bytes) before) (length bytes) refl) at p

@@ -3,19 +3,21 @@ use Prim.Native.Nat.{ℕ, _+_, _-_, _^_, _≤_, _<_}
 use native.Mathlib.Numerals.{add-one}
 use native.Mathlib.Omega.{arith}
 use mathlib.Core.Path.{_≡_, refl, sym, _∙_}
-use mathlib.Core.List.{List, [], _∷_, _++_, append-assoc, append-nil}
-use lib.ListN.{length, take, drop, set, length-append, length-drop}
-use lib.Seq.{take-all, length-take-le, set-at, drop-cons}
+use mathlib.Core.List.{List, [], _∷_, _++_, append-assoc}
+use lib.ListN.{length, take, drop, set, length-append}
+use lib.Seq.{sets, take-all, length-take-le, set-at, drop-cons}
 use mir.Syntax.{w64}
 use mir.Val.{Fits}
 use borrow.Author.Tests.{le-leb}
 use borrow.Rule.Slice.PartMut.{midOf, putMid}
 use Rattle.zigbee_types.specs.Answers.{writtenSays}
-use Rattle.zigbee_types.specs.Outcome.{Outcome, answer, refusal, mapped, fitted, written, Wrote}
+use Rattle.zigbee_types.specs.Outcome.{Outcome, answer, mapped, fitted, written, Wrote}
 use Rattle.zigbee_types.specs.declared.Refusal.{Refusal}
 use Rattle.zigbee_types.specs.declared.Written.{Written}
 use Rattle.zigbee_types.specs.declared.Written.the-variants.{Length, Refused}
-use Rattle.zigbee_types.proofs.Outcomes.{wrote-bytes}
+use Rattle.zigbee_types.proofs.Fields.{sets-append}
+use Rattle.zigbee_types.proofs.Outcomes.{stored-front, wrote-stored, wrote-bytes, wrote-within}
+use Rattle.zigbee_types.proofs.Parts.{part-told, part-stored}
 use Rattle.lines.specs.Lines.{LINE-FEED}
 use Rattle.answer_lines.specs.Session.{lineEnd, Ends}
 
@@ -72,3 +74,26 @@ module _ (text : List ℕ) {before middle : List ℕ} {told : Outcome ℕ} (w : 
         left =
             rw (le-leb _ _ fits, e .left, text-told room, text-stands room, drop-cons before (length text) 0 h, set-at text _ _ LINE-FEED (length text) refl, length-append, append-assoc, add-one);
       }
+
+-- ---- a text behind another
+
+-- of two texts, for which a buffer has room, the first was written to its front, and then the second behind it
+module _ (text more : List ℕ) {before middle : List ℕ} {n : ℕ} (w : Wrote (answer text) before (answer n) middle) (room : length text + length more ≤ length before) where
+  inside : n + length more ≤ length middle
+  inside = omega (arith, wrote-bytes w .long, wrote-within _ w .same)
+
+  module _ {told : Outcome ℕ} {v : List ℕ} (p : Wrote (answer more) (midOf n (length middle - n) middle) told v) where
+    -- it had room
+    pub more-told : told ≡ answer (length more)
+    more-told = part-told n middle more inside p
+
+    -- and both are written
+    pub both-written : {k : ℕ} → told ≡ answer k → Wrote (answer (text ++ more)) before (answer (n + k)) (putMid n (length middle - n) middle v)
+    both-written {k} is =
+        let stands = wrote-bytes w in
+        let (long, stored) = part-stored n middle more inside (rw is at p) in
+        let front : middle ≡ sets before 0 text = stands .left ∙ sym (stored-front text before (omega arith)) in
+        let behind : n ≡ 0 + length text = omega (arith, stands .long) in
+        wrote-stored (text ++ more) (rw length-append (omega (arith, stands .long, long)))
+        (stored ∙ (λ i. sets (front i) (behind i) more) ∙ sets-append before 0 text more)
+        (rw length-append room)

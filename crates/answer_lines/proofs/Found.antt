@@ -12,7 +12,7 @@ use Rattle.zigbee_types.specs.declared.Written.the-variants.{Length, Refused}
 use Rattle.zigbee_types.proofs.Outcomes.{wrote-refused}
 use Rattle.aps_binding_table.specs.declared.binding.BindingTable.{BindingTable}
 use Rattle.lines.specs.Chunks.{foundLine}
-use Rattle.lines.specs.Lines.{LINE-FEED, whole, overlong}
+use Rattle.lines.specs.Lines.{LINE-FEED, whole}
 use Rattle.lines.specs.declared.splitter.Found.{Found}
 use Rattle.lines.specs.declared.splitter.Found.the-variants.{Line, Overlong, Nothing}
 use Rattle.our_device.specs.OurDevice.{ours}
@@ -34,18 +34,24 @@ module _ (t : BindingTable) (found : Found) (line out : List ℕ) where
   -- a buffer without room for the longest text
   pub found-full : length out < 262 → Speaks (spoken ours t (foundLine found line)) t out (writtenSays (Refused ShortBuffer)) t out
   unfolding withText writtenSays mapped tableThen
-  found-full h = record { wrote = rw (lt-leb 262 (length out) h) (wrote-refused 5 out); table = rw (lt-leb 262 (length out) h) }
+  found-full h =
+      record { wrote = rw (lt-leb 262 (length out) h) (wrote-refused 5 out); table = rw (lt-leb 262 (length out) h); short = λ room. absurd (omega arith) }
 
   module _ (room : 262 ≤ length out) where
     -- with room, what is written is the text
-    speaks : {told : Outcome ℕ} {u : BindingTable} {after : List ℕ} (s : Said) → Wrote (answer (s .text)) out told after → u ≡ s .table → Speaks s t out told u after
+    speaks :
+        {told : Outcome ℕ} {u : BindingTable} {after : List ℕ} (s : Said)
+        → length (s .text) ≤ 262
+        → Wrote (answer (s .text)) out told after
+        → u ≡ s .table
+        → Speaks s t out told u after
     unfolding withText mapped tableThen
-    speaks s w e = record { wrote = rw (le-leb 262 (length out) room) w; table = rw (le-leb 262 (length out) room) e }
+    speaks s few w e = record { wrote = rw (le-leb 262 (length out) room) w; table = rw (le-leb 262 (length out) room) e; short = λ h. few }
 
     -- no line has ended
     pub found-none : found ≡ Nothing → Speaks (spoken ours t (foundLine found line)) t out (writtenSays (Length 0)) t out
     unfolding foundLine spoken writtenSays
-    found-none is = rw is (speaks (record { text = []; table = t }) nothing-written refl)
+    found-none is = rw is (speaks (record { text = []; table = t }) (omega arith) nothing-written refl)
 
     -- one that is too long
     pub found-long :
@@ -54,7 +60,7 @@ module _ (t : BindingTable) (found : Found) (line out : List ℕ) where
         → Wrote (answer (63 ∷ LINE-FEED ∷ [])) out told after
         → Speaks (spoken ours t (foundLine found line)) t out told t after
     unfolding foundLine spoken said unheard
-    found-long is w = rw is (speaks (record { text = 63 ∷ LINE-FEED ∷ []; table = t }) w refl)
+    found-long is w = rw is (speaks (record { text = 63 ∷ LINE-FEED ∷ []; table = t }) (omega arith) w refl)
 
     module _ {n : ℕ} {chars : List ℕ} (is : found ≡ Line n) (front : chars ≡ take n line) {told : Outcome ℕ} {u : BindingTable} {middle : List ℕ} (h : Tells (said ours t (whole chars)) out told u middle) where
       -- there is a place for the end of its text
@@ -72,4 +78,5 @@ module _ (t : BindingTable) (found : Found) (line out : List ℕ) where
       found-line e =
           let s : Said = said ours t (whole chars) in
           let w = text-ended (s .text) (h .wrote) (omega (arith, h .short)) e in
-          rw (is, ← front) (speaks (record { text = s .text ++ (LINE-FEED ∷ []); table = s .table }) w (h .table))
+          let few : length (s .text ++ (LINE-FEED ∷ [])) ≤ 262 = rw length-append (omega (arith, h .short)) in
+          rw (is, ← front) (speaks (record { text = s .text ++ (LINE-FEED ∷ []); table = s .table }) few w (h .table))

@@ -1,23 +1,20 @@
 -- A line that is heard: what `dispatch` answered as text, and the request that was read. Assumes nothing.
-use Prim.Native.Nat.{ℕ, _+_, _*_, _/_, _≤_, _<_}
+use Prim.Native.Nat.{ℕ, _*_, _/_, _≤_, _<_}
 use native.Mathlib.Omega.{arith}
-use mathlib.Core.Path.{_≡_, refl, sym, _∙_}
-use mathlib.Core.Bool.{Bool, true, false, cond}
-use mathlib.Core.List.{List, _++_}
-use mathlib.Core.Option.{Option, none, some}
-use lib.Dec.{leb}
+use mathlib.Core.Path.{_≡_, refl, sym}
+use mathlib.Core.Bool.{true, false, cond}
+use mathlib.Core.List.{List}
+use mathlib.Core.Option.{none, some}
 use lib.ListN.{length, take, drop, length-append, length-take}
 use lib.Seq.{take-at, length-take-le}
-use borrow.Author.Tests.{leb-true, leb-false, le-leb}
-use Rattle.zigbee_types.specs.Answers.{writtenSays}
-use Rattle.zigbee_types.specs.Lists.{option}
+use borrow.Author.Tests.{leb-false, le-leb}
 use Rattle.zigbee_types.specs.Outcome.{Outcome, answer, refusal, mapped, written, Wrote}
 use Rattle.zigbee_types.specs.Refusals.{refusalNumber}
 use Rattle.zigbee_types.specs.declared.Refusal.{Refusal}
 use Rattle.aps_binding_table.specs.declared.binding.BindingTable.{BindingTable}
 use Rattle.zdo_requests.specs.declared.descriptor.MgmtLeaveReq.{MgmtLeaveReq}
 use Rattle.zdo_discovery.specs.Host.{asking}
-use Rattle.zdo_dispatcher.specs.Answers.{Answer, reply, leave, Told, replied, leaving, toldOf, tableAfter, bufferAfter, responseSays, answered, Dispatched}
+use Rattle.zdo_dispatcher.specs.Answers.{Answer, reply, leave, replied, toldOf, bufferAfter, responseSays, answered, Dispatched}
 use Rattle.zdo_dispatcher.specs.declared.dispatcher.Response.{Response}
 use Rattle.zdo_dispatcher.specs.declared.dispatcher.Response.the-variants as response
 use Rattle.hex_lines.specs.RequestLine.{requestLine}

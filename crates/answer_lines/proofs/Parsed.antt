@@ -1,14 +1,14 @@
 -- What was read of a line: a request with its payload in the buffer, or none; and that the longest line has room. Assumes nothing.
-use Prim.Native.Nat.{ℕ, _-_, _/_, _≤_, _<_}
+use Prim.Native.Nat.{ℕ, _/_, _≤_, _<_}
 use native.Mathlib.Omega.{arith}
-use mathlib.Core.Path.{_≡_, refl, sym, _∙_}
+use mathlib.Core.Path.{_≡_, refl, sym}
 use mathlib.Core.Bool.{Bool, true, false, cond}
-use mathlib.Core.List.{List, _++_}
+use mathlib.Core.List.{List}
 use mathlib.Core.Option.{Option, none, some}
 use lib.Dec.{leb}
 use lib.ListN.{length, take, drop, length-append, length-drop}
 use lib.Seq.{take-at, length-take-le}
-use borrow.Author.Tests.{leb-false, le-leb}
+use borrow.Author.Tests.{le-leb}
 use Rattle.zigbee_types.specs.Lists.{option}
 use Rattle.zigbee_types.specs.Outcome.{Outcome, answer, refusal, mapped, written, Wrote}
 use Rattle.zigbee_types.specs.declared.Refusal.{Refusal}

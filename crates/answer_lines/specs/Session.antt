@@ -1,5 +1,5 @@
 -- What the program `answer` writes for its lines (document 01, "Counter-cases").
-use Prim.Native.Nat.{ℕ, _+_, _<_}
+use Prim.Native.Nat.{ℕ, _+_, _≤_, _<_}
 use mathlib.Core.Path.{_≡_}
 use mathlib.Core.Bool.{cond}
 use mathlib.Core.List.{List, [], _∷_, _++_}
@@ -93,15 +93,15 @@ countText count = BINDINGS ++ decimal count
 unfoldable pub closing : ℕ → List ℕ
 closing count = countText count ++ (LINE-FEED ∷ [])
 
--- what is written for lines, from an empty table on
-unfoldable pub session : Host → List Line → List ℕ
-session h lines =
-    let s = spoken h (emptyTable LIMIT) lines in
+-- what is written for the last lines, from a table on, and then at the end
+unfoldable pub session : Host → BindingTable → List Line → List ℕ
+session h t lines =
+    let s = spoken h t lines in
     s .text ++ closing (s .table .count)
 
--- what the program writes for its input
+-- what the program writes for its input: it begins with an empty table
 unfoldable pub answers : List ℕ → List ℕ
-answers input = session ours (linesWithin LINE input)
+answers input = session ours (emptyTable LIMIT) (linesWithin LINE input)
 
 -- ---- with a buffer for the text
 
@@ -121,26 +121,28 @@ pub record Ends (told : Outcome ℕ) (before : List ℕ) (more : Outcome ℕ) (a
   pub said : more ≡ mapped (λ n. n + 1) told
   pub left : after ≡ lineEnd before told
 
--- room for the longest text: cluster, space, two digits for each byte of the longest reply, line feed
+-- room for any text: cluster, space, two digits for each byte of a full reply buffer, line feed
 abbrev pub TEXT : ℕ
 TEXT = 262
 
--- a line is answered, without its line feed: the text is written, and the table after it; with a line feed it is not too long
+-- a line is answered, without its line feed: the text is written, and the table after it; with a line feed there is room for it
 pub record Tells (s : Said) (before : List ℕ) (told : Outcome ℕ) (u : BindingTable) (after : List ℕ) : Type 0 where
   pub wrote : Wrote (answer (s .text)) before told after
   pub table : u ≡ s .table
   pub short : length (s .text) < TEXT
 
 -- refusal 5: there is not that room, whatever is to be written
-unfoldable pub withText : {A : Type 0} → ℕ → A → Outcome A
-withText room a = cond (leb TEXT room) (answer a) (refusal 5)
+unfoldable pub withText : ℕ → Said → Outcome Said
+withText room s = cond (leb TEXT room) (answer s) (refusal 5)
 
 -- the binding table after it; a refusal leaves it
 unfoldable pub tableThen : BindingTable → Outcome Said → BindingTable
 tableThen t (answer s) = s .table
 tableThen t (refusal n) = t
 
--- a call that comes to s: its text is written, or refusal 5 is told; and the table after it
+-- a call that comes to s: its text is written, or refusal 5 is told; the table after it; and where there is room for any text, there
+-- is room for this one
 pub record Speaks (s : Said) (t : BindingTable) (before : List ℕ) (told : Outcome ℕ) (u : BindingTable) (after : List ℕ) : Type 0 where
   pub wrote : Wrote (mapped (λ r. r .text) (withText (length before) s)) before told after
   pub table : u ≡ tableThen t (withText (length before) s)
+  pub short : TEXT ≤ length before → length (s .text) ≤ TEXT

@@ -11,20 +11,27 @@ use zigbee_types::Refusal;
 use zigbee_types::Written;
 ghost use Prim.Native.Nat.{ℕ, _<_, _≤_};
 ghost use mathlib.Core.Path.{_≡_};
-ghost use lib.ListN.{length, take};
+ghost use lib.ListN.{length, take, replicate};
 ghost use Rattle.zigbee_types.specs.Answers.{writtenSays};
 ghost use Rattle.zigbee_types.specs.Outcome.{answer, Wrote};
 ghost use Rattle.zigbee_types.specs.Refusals.{refusalNumber};
 ghost use Rattle.lines.specs.Chunks.{foundLine};
 ghost use Rattle.lines.specs.Lines.{whole};
 ghost use Rattle.our_device.specs.OurDevice.{ours};
-ghost use Rattle.answer_lines.specs.Session.{heard, said, spoken, countText, closing, withText, refusalText, responseText, Tells, Ends, Speaks};
+ghost use Rattle.aps_binding_table.specs.Table.{emptyTable};
+ghost use Rattle.answer_lines.specs.Session.{LINE, LIMIT, heard, said, spoken, countText, closing, session, refusalText, responseText, Tells, Ends, Speaks};
 
 // The longest line, without its line feed.
 pub const LINE: usize = 4096;
 
-// The longest text, with its line feed: that of the longest reply.
+// Room for any text, with its line feed: that of a reply that fills its buffer.
 pub const TEXT: usize = 262;
+
+// Room for the last two lines: any text, and the longest number behind its word.
+const LAST: usize = 292;
+
+// How many entries the binding table may hold.
+const LIMIT: usize = 32;
 
 // How many bytes the reply's buffer has.
 const REPLY: usize = 128;
@@ -36,6 +43,22 @@ const PAYLOAD: usize = 2045;
 pub struct Answered {
     pub table: BindingTable,
     pub written: Written,
+}
+
+// ---- the beginning
+
+// The binding table before the first line: empty.
+pub fn first_table() -> BindingTable
+    ensures { λ r. ⌜ r ≡ emptyTable LIMIT ⌝ }
+{
+    BindingTable::new(LIMIT)
+}
+
+// A buffer for the longest line.
+pub fn line_buffer() -> [u8; LINE]
+    ensures { λ r. ⌜ r ≡ replicate LINE 0 ⌝ }
+{
+    [0; LINE]
 }
 
 // ---- texts, without the line feed
@@ -144,7 +167,7 @@ fn front(line: &[u8], count: usize) -> &[u8]
 }
 
 // Answers what the splitter found: writes the answer to a line at the front of a buffer, or nothing where no line has ended. A buffer
-// that has no room for the longest text is refused, and then nothing is written and the table is as it was.
+// that has no room for every text is refused, and then nothing is written and the table is as it was.
 pub fn answer_found(
     table: BindingTable,
     found: Found,
@@ -180,26 +203,51 @@ pub fn answer_found(
     }
 }
 
-// Writes how many entries the binding table holds, without the line feed, into a buffer that has room for the longest text.
-fn write_count(count: usize, out: &mut [u8]) -> Written
-    requires { ⌜ 262 ≤ length (now out) ⌝ }
-    ensures { λ r. ⌜ Wrote (answer (countText count)) (now (out .entry)) (writtenSays r) (now (out .exit)) ⌝ }
+// ---- the end of the input
+
+// Writes how many entries the binding table holds, without the line feed.
+fn write_count(count: usize, out: &mut [u8]) -> usize
+    requires { ⌜ 30 ≤ length (now out) ⌝ }
+    ensures { λ r. ⌜ Wrote (answer (countText count)) (now (out .entry)) (answer r) (now (out .exit)) ⌝ }
 {
     write_text(b"bindings ", out);
     let digits = write_decimal(count as u64, &mut out[9..]);
     match digits {
-        Written::Length(n) => Written::Length(9 + n),
-        Written::Refused(why) => Written::Refused(why),
+        Written::Length(n) => 9 + n,
+        Written::Refused(_) => 9,
     }
 }
 
-// Writes the last line: how many entries the binding table holds. Too short a buffer is refused in the same way.
-pub fn write_closing(count: usize, out: &mut [u8]) -> Written
-    ensures { λ r. ⌜ Wrote (withText (length (now (out .entry))) (closing count)) (now (out .entry)) (writtenSays r) (now (out .exit)) ⌝ }
+// The same, with the line feed.
+fn write_closing(count: usize, out: &mut [u8]) -> usize
+    requires { ⌜ 30 ≤ length (now out) ⌝ }
+    ensures { λ r. ⌜ Wrote (answer (closing count)) (now (out .entry)) (answer r) (now (out .exit)) ⌝ }
 {
-    if out.len() < TEXT {
-        return Written::Refused(Refusal::ShortBuffer);
+    let end = write_count(count, out);
+    out[end] = b'\n';
+    end + 1
+}
+
+// Writes the last two lines.
+fn write_last(table: BindingTable, found: Found, line: &[u8; LINE], out: &mut [u8]) -> usize
+    requires { ⌜ 292 ≤ length (now out) ⌝ }
+    ensures { λ r. ⌜ Wrote (answer (session ours table (foundLine found (now (line .entry))))) (now (out .entry)) (answer r) (now (out .exit)) ⌝ }
+{
+    let answered = answer_found(table, found, line, out);
+    let count = answered.table.count;
+    let written = answered.written;
+    match written {
+        Written::Length(n) => n + write_closing(count, &mut out[n..]),
+        Written::Refused(_) => 0,
     }
-    let written = write_count(count, out);
-    end_line(written, out)
+}
+
+// The end of the input: answers the last line, if one was found, and then tells how many entries the binding table holds. Too short a
+// buffer is refused, and nothing is written.
+pub fn answer_last(table: BindingTable, found: Found, line: &[u8; LINE], out: &mut [u8]) -> Written
+    ensures { λ r. ⌜ Wrote (answer (session ours table (foundLine found (now (line .entry))))) (now (out .entry)) (writtenSays r) (now (out .exit)) ⌝ }
+{
+    let mut text = [0u8; LAST];
+    let length = write_last(table, found, line, &mut text);
+    write_text(&text[..length], out)
 }

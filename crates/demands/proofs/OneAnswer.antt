@@ -46,6 +46,11 @@ use Rattle.zdo_device.specs.declared.descriptor.OptionEndpoint.{OptionEndpoint}
 use Rattle.zdo_device.specs.declared.descriptor.OptionEndpoint.the-variants as optional
 use Rattle.zdo_matching.specs.Answers.{matchingSays}
 use Rattle.zdo_matching.specs.declared.descriptor.Matching.the-variants as matching
+use Rattle.zdo_dispatcher.specs.Answers.{Told, replied, leaving, responseSays}
+use Rattle.zdo_dispatcher.specs.declared.dispatcher.Response.{Response}
+use Rattle.zdo_dispatcher.specs.declared.dispatcher.Response.the-variants as response
+use Rattle.zdo_dispatcher.proofs.OneDispatched.{one-dispatched}
+use Rattle.answer_lines.proofs.OneOutcome.{one-speaks}
 use Rattle.demands.specs.OneAnswer.{Determines, OneAnswer}
 
 one-written : Determines writtenSays
@@ -88,6 +93,17 @@ one-matching =
     determined _ (λ n. matching.Matched (record { written = n })) matching.Refused
     (elim [ matching.Matched m ↦ refl | matching.Refused why ↦ refused-back matching.Refused why ])
 
+-- the answer that tells a reply or a leave
+abbrev responseOf : Told → Response
+responseOf (replied cluster n) = response.Reply cluster n
+responseOf (leaving q) = response.Leave q
+
+one-response : Determines responseSays
+unfolding responseSays
+one-response =
+    determined _ responseOf response.Refused
+    (elim [ response.Reply cluster n ↦ refl | response.Leave q ↦ refl | response.Refused why ↦ refused-back response.Refused why ])
+
 pub one-answer : OneAnswer
 unfolding listsSays nodeSays powerSays simpleSays nwkAddrReqSays ieeeAddrReqSays addrOfInterestReqSays addrOfInterestSays simpleDescReqSays matchDescReqSays bindReqSays mgmtLeaveReqSays headerSays nodeDescRspSays nodeReplySays powerReplySays addrReplySays statusReplySays listReplySays matchReplySays simpleReplySays
 one-answer =
@@ -118,6 +134,7 @@ one-answer =
       simpleReply = determined _ simpleReply.Reply simpleReply.Refused (elim [ simpleReply.Reply r ↦ refl | simpleReply.Refused why ↦ refused-back simpleReply.Refused why ]);
       endpoint = λ a b e. sym (endpoint-back a) ∙ ap endpointFrom e ∙ endpoint-back b;
       matching = one-matching;
+      response = one-response;
       writer = λ o before r s after later p q. let (told, left) = one-wrote o before _ _ after later p q in (one-written r s told, left);
       linker =
           λ o t r s p q.
@@ -125,4 +142,14 @@ one-answer =
           let left = p .left ∙ sym (q .left) in
           λ i. record { table = left i; status = told i };
       matcher = λ o before r s after later p q. let (told, left) = one-begun o before _ _ after later p q in (one-matching r s told, left);
+      dispatcher =
+          λ o t before r s after later p q.
+          let (told, table, left) = one-dispatched o t before _ _ _ _ after later p q in
+          let response = one-response (r .response) (s .response) told in
+          (λ i. record { table = table i; response = response i }, left);
+      answerer =
+          λ o t before r s after later p q.
+          let (told, table, left) = one-speaks o t before _ _ _ _ after later p q in
+          let written = one-written (r .written) (s .written) told in
+          (λ i. record { table = table i; written = written i }, left);
     }

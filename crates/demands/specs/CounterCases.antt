@@ -1,5 +1,5 @@
--- Document 01's counter-cases K1 to K11, and the sample of the program `answer` as far as it speaks of definitions. What the
--- definitions say stands on one side, and document 01's bytes and numbers, as literals, on the other.
+-- Document 01's counter-cases K1 to K11. What the definitions say stands on one side, and document 01's bytes and numbers, as
+-- literals, on the other.
 use Prim.Native.Nat.{ℕ}
 use mathlib.Core.List.{List, [], _∷_, _++_, map}
 use mathlib.Core.Option.{Option, none, some}
@@ -13,7 +13,7 @@ use Rattle.zdo_replies.specs.Replies.{nodeDescRsp}
 use Rattle.zdo_readers.specs.Readers.{nodeDescRspIn, stackRevisionOf}
 use Rattle.zdo_device_rsp.specs.TableReplies.{simpleDescRsp}
 use Rattle.zdo_discovery.specs.Host.{Asked}
-use Rattle.zdo_dispatcher.specs.Answers.{answered, run, runTable}
+use Rattle.zdo_dispatcher.specs.Answers.{answered, run}
 use Rattle.our_device.specs.OurDevice.{ourNode, ourPower, ourPools, ourDevice, ours}
 use Rattle.demands.specs.Devices.{endpointAt, deviceOf}
 use Rattle.demands.specs.Cases.{Case, asked, found, heard, statusOf, powerShown, bindA, bindB, bindC}
@@ -125,28 +125,5 @@ K11 =
       expected =
           answer (0x00 ∷ []) ∷ answer (0x8C ∷ []) ∷ answer (0x00 ∷ []) ∷ answer (0x00 ∷ []) ∷ answer (0x88 ∷ [])
           ∷ answer (0x00 ∷ []) ∷ answer (0x00 ∷ []) ∷ answer (0x00 ∷ []) ∷ answer (0x00 ∷ []) ∷ answer (0x00 ∷ [])
-          ∷ [];
-    }
-
--- the four lines of the sample
-abbrev pub sample : List Asked
-sample =
-    asked 0x0005 (0x07 ∷ 0x34 ∷ 0x12 ∷ [])
-    ∷ asked 0x0006 (0x09 ∷ 0x34 ∷ 0x12 ∷ 0x04 ∷ 0x01 ∷ 0x01 ∷ 0x02 ∷ 0x04 ∷ 0x00 ∷ [])
-    ∷ asked 0x0021 bindA
-    ∷ asked 0x0007 (0x00 ∷ [])
-    ∷ []
-
--- the sample: what the four lines come to, one after the other, and how many bindings there are then
-unfoldable pub Sample : Case
-Sample =
-    record {
-      says = map heard (run ours (emptyTable 32) sample) ++ answer (runTable ours (emptyTable 32) sample .count ∷ []) ∷ [];
-      expected =
-          answer (0x8005 ∷ 0x07 ∷ 0x00 ∷ 0x34 ∷ 0x12 ∷ 0x02 ∷ 0x01 ∷ 0x02 ∷ [])
-          ∷ answer (0x8006 ∷ 0x09 ∷ 0x00 ∷ 0x34 ∷ 0x12 ∷ 0x01 ∷ 0x01 ∷ [])
-          ∷ answer (0x8021 ∷ 0x0A ∷ 0x00 ∷ [])
-          ∷ refusal 2
-          ∷ answer (1 ∷ [])
           ∷ [];
     }

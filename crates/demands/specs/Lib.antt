@@ -1,6 +1,7 @@
 pub mod Devices
 pub mod Cases
 pub mod CounterCases
+pub mod ProgramCases
 pub mod DispatchCases
 pub mod RequestCases
 pub mod ReplyCases

@@ -20,13 +20,18 @@ use Rattle.zdo_list_readers.specs.Answers.{listReplySays, matchReplySays, simpl
 use Rattle.zdo_device.specs.Tables.{endpointSays}
 use Rattle.zdo_matching.specs.Answers.{matchingSays}
 use Rattle.zdo_matching.specs.declared.descriptor.Matching.{Matching}
+use Rattle.zdo_dispatcher.specs.Answers.{Answer, responseSays, Dispatched}
+use Rattle.zdo_dispatcher.specs.declared.dispatcher.Responded.{Responded}
+use Rattle.answer_lines.specs.Session.{Said, Speaks}
+use Rattle.answer_lines.specs.declared.session.Answered.{Answered}
 
 -- what an answer says determines it
 abbrev pub Determines : {A B : Type 0} → (A → B) → Type 0
 Determines {A} says = (a b : A) → says a ≡ says b → a ≡ b
 
--- so it is with each enum that holds an answer or a refusal, and with those that hold a record or a number, or none; a writer's contract determines its answer and
--- the buffer, so does matching's, and a bind's or an unbind's its answer and its table
+-- so it is with each enum by which a public function answers or refuses (that of a read line is in `OneLineRead`), and with those that
+-- hold a record or a number, or none; a writer's contract determines its answer and the buffer, so does matching's, a bind's or an
+-- unbind's its answer and its table, and the dispatcher's and that of an answered line all three
 pub record OneAnswer : Type 0 where
   pub written : Determines writtenSays
   pub lists : Determines listsSays
@@ -54,6 +59,7 @@ pub record OneAnswer : Type 0 where
   pub simpleReply : Determines simpleReplySays
   pub endpoint : Determines endpointSays
   pub matching : Determines matchingSays
+  pub response : Determines responseSays
   pub writer :
       (o : Outcome (List ℕ)) (before : List ℕ) (r s : Written) (after later : List ℕ)
       → Wrote o before (writtenSays r) after
@@ -68,4 +74,14 @@ pub record OneAnswer : Type 0 where
       (o : Outcome (List ℕ)) (before : List ℕ) (r s : Matching) (after later : List ℕ)
       → Begun o before (matchingSays r) after
       → Begun o before (matchingSays s) later
+      → (r ≡ s) × (after ≡ later)
+  pub dispatcher :
+      (o : Outcome Answer) (t : BindingTable) (before : List ℕ) (r s : Responded) (after later : List ℕ)
+      → Dispatched o t before (responseSays (r .response)) (r .table) after
+      → Dispatched o t before (responseSays (s .response)) (s .table) later
+      → (r ≡ s) × (after ≡ later)
+  pub answerer :
+      (o : Said) (t : BindingTable) (before : List ℕ) (r s : Answered) (after later : List ℕ)
+      → Speaks o t before (writtenSays (r .written)) (r .table) after
+      → Speaks o t before (writtenSays (s .written)) (s .table) later
       → (r ≡ s) × (after ≡ later)

@@ -8,6 +8,6 @@ use Rattle.hex_lines.specs.declared.ParsedLine.the-variants as parsed
 
 -- of the reader of a line: what it heard, if anything
 unfoldable pub lineSays : ParsedLine → Outcome (Option Heard)
-lineSays (parsed.Request cluster length) = answer (some (record { cluster = cluster; length = length }))
+lineSays (parsed.Request cluster n) = answer (some (record { cluster = cluster; length = n }))
 lineSays parsed.Other = answer none
 lineSays (parsed.Refused why) = refusal (refusalNumber why)

@@ -2,7 +2,7 @@
 use Prim.Native.Nat.{ℕ, suc, _+_, _≤_, _<_}
 use native.Mathlib.Numerals.{add-one}
 use native.Mathlib.Omega.{arith}
-use mathlib.Core.Path.{_≡_, refl, sym, _∙_}
+use mathlib.Core.Path.{_≡_, refl, _∙_}
 use mathlib.Core.Bool.{Bool, true, false, cond}
 use mathlib.Core.List.{List, [], _∷_}
 use lib.Dec.{eqb}
@@ -10,7 +10,7 @@ use lib.ListN.{length, getD, drop, drop-of-length-le, length-set}
 use lib.Seq.{drop-cons}
 use borrow.Author.Tests.{eq-eqb, ne-eqb}
 use Rattle.lines.specs.Lines.{LINE-FEED}
-use Rattle.lines.specs.Splitter.{Pending, pending, grown, ended, Taken, later, split, Splits}
+use Rattle.lines.specs.Splitter.{Pending, pending, grown, ended, later, split, Splits}
 use Rattle.lines.specs.declared.splitter.Found.{Found}
 use Rattle.lines.specs.declared.splitter.Found.the-variants.{Nothing}
 use Rattle.lines.specs.declared.splitter.Split.{Split}

@@ -7,7 +7,7 @@ use mathlib.Core.List.{List, [], _∷_, _++_}
 use lib.Dec.{leb}
 use lib.ListN.{length, take, drop}
 use Rattle.lines.specs.Lines as lines
-use Rattle.lines.specs.Splitter.{Pending, pending, Taken, split, last}
+use Rattle.lines.specs.Splitter.{Pending, pending, split, last}
 use Rattle.lines.specs.declared.splitter.Found.{Found}
 use Rattle.lines.specs.declared.splitter.Found.the-variants.{Line, Overlong, Nothing}
 

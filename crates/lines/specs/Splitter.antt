@@ -20,7 +20,7 @@ pub record Pending : Type 0 where
 abbrev pub pending : ℕ → List ℕ → Pending
 pending count buffer = record { count = count; buffer = buffer }
 
--- with one character more, put behind the others where there is room
+-- with one character more, put behind the others where there is room; the count goes no further than one above the buffer's length
 unfoldable pub grown : Pending → ℕ → Pending
 grown p c = pending (cond (leb (p .count) (length (p .buffer))) (p .count + 1) (p .count)) (set (p .buffer) (p .count) c)
 

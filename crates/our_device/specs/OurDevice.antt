@@ -1,5 +1,4 @@
 -- The device of document 01's counter-cases, and of the program `answer`.
-use Prim.Native.Nat.{ℕ}
 use mathlib.Core.Bool.{false}
 use mathlib.Core.List.{[], _∷_}
 use lib.ListN.{replicate}
@@ -76,7 +75,7 @@ ourPools = record { inputs = 0x0000 ∷ 0x0402 ∷ 0x0000 ∷ 0x0500 ∷ []; out
 
 -- endpoints 1 and 2; what stands behind them does not matter
 abbrev pub ourDevice : DeviceDescriptorConfig
-ourDevice = record { node = ourNode; power = ourPower; endpoints = endpoint1 ∷ replicate 31 endpoint2; «endpoint_count» = 2 }
+ourDevice = record { node = ourNode; power = ourPower; endpoints = endpoint1 ∷ endpoint2 ∷ replicate 30 endpoint2; «endpoint_count» = 2 }
 
 -- our device, with its addresses: IEEE 0x0102030405060708, short 0x1234
 abbrev pub ours : Host

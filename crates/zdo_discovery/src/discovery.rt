@@ -299,7 +299,7 @@ fn on_match<'a>(
 
 // ---- by the cluster
 
-// Replies to a discovery request, by its cluster; any other cluster is refused. Too short a payload is refused, then a descriptor of
+// Replies to a discovery request, by its cluster; any other cluster is refused. A malformed payload is refused, then a descriptor of
 // too many clusters, then too short a buffer; nothing is written in any of these cases. The dispatcher has checked the tables.
 pub fn discovery<'a>(
     device: DeviceDescriptorConfig,

@@ -1,12 +1,11 @@
 -- Bind and unbind: the entry that a request names, whether its source is ours, and what the table then does. Assumes nothing.
 use Prim.Native.Nat.{ℕ, _≤_, _<_}
-use native.Mathlib.Omega.{arith}
 use mathlib.Core.Path.{_≡_, refl, sym, _∙_}
 use mathlib.Core.Bool.{Bool, true, false, not}
 use mathlib.Core.List.{List}
 use lib.ListN.{length}
 use borrow.Author.Tests.{eq-eqb, ne-eqb, le-leb, lt-leb}
-use Rattle.zigbee_types.specs.Outcome.{Outcome, answer, refusal, andThen, mapped, fitted, Wrote}
+use Rattle.zigbee_types.specs.Outcome.{Outcome, answer, andThen, mapped, fitted, Wrote}
 use Rattle.zigbee_types.specs.Answers.{writtenSays}
 use Rattle.zigbee_types.specs.Refusals.{refusalNumber}
 use Rattle.zigbee_types.specs.Statuses.{SUCCESS, INVALID-EP, NOT-SUPPORTED, NO-ENTRY, TABLE-FULL}
@@ -15,7 +14,6 @@ use Rattle.zigbee_types.specs.declared.IeeeAddress.{IeeeAddress}
 use Rattle.zigbee_types.specs.declared.GroupAddress.{GroupAddress}
 use Rattle.zigbee_types.specs.declared.Refusal.{Refusal}
 use Rattle.zigbee_types.specs.declared.Refusal.the-variants.{ShortBuffer}
-use Rattle.zigbee_types.specs.declared.Written.{Written}
 use Rattle.zigbee_types.specs.declared.Written.the-variants as written
 use Rattle.zigbee_types.proofs.Layouts.{laid-counted}
 use Rattle.zigbee_types.proofs.Outcomes.{wrote-refused}

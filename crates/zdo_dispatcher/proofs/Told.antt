@@ -13,7 +13,7 @@ use Rattle.zigbee_types.specs.declared.Written.{Written}
 use Rattle.zigbee_types.specs.declared.Written.the-variants.{Length, Refused}
 use Rattle.aps_binding_table.specs.declared.binding.BindingTable.{BindingTable}
 use Rattle.zdo_requests.specs.Clusters.{replyCluster}
-use Rattle.zdo_dispatcher.specs.Answers.{Answer, reply, Told, replied, toldOf, tableAfter, bufferAfter, responseSays, Dispatched}
+use Rattle.zdo_dispatcher.specs.Answers.{reply, Told, replied, toldOf, tableAfter, bufferAfter, responseSays, Dispatched}
 use Rattle.zdo_dispatcher.specs.declared.dispatcher.Response.the-variants as response
 
 -- ---- by the writer's answer

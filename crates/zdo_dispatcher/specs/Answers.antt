@@ -1,7 +1,7 @@
 -- The dispatcher: what any request comes to, and what is left of it (document 01, "Binding and dispatch").
 use Prim.Native.Nat.{ℕ}
 use mathlib.Core.Path.{_≡_}
-use mathlib.Core.Bool.{Bool, true, false, _&&_, cond}
+use mathlib.Core.Bool.{true, false, _&&_, cond}
 use mathlib.Core.List.{List, [], _∷_}
 use lib.Dec.{eqb}
 use lib.ListN.{length}
@@ -99,7 +99,7 @@ toldOf (leave q) = leaving q
 
 -- what the answer of `dispatch` says: a reply by its cluster and length, a leave by its request, and a refusal by its number
 unfoldable pub responseSays : Response → Outcome Told
-responseSays (response.Reply cluster length) = answer (replied cluster length)
+responseSays (response.Reply cluster n) = answer (replied cluster n)
 responseSays (response.Leave q) = answer (leaving q)
 responseSays (response.Refused why) = refusal (refusalNumber why)
 

@@ -27,7 +27,7 @@ use zigbee_types::ShortAddress;
 use zigbee_types::Written;
 ghost use Prim.Native.Nat.{ℕ, _+_, _^_, _<_};
 ghost use mathlib.Core.Path.{_≡_};
-ghost use mathlib.Core.Bool.{_&&_, true};
+ghost use mathlib.Core.Bool.{true};
 ghost use lib.ListN.{length};
 ghost use Rattle.zigbee_types.specs.Outcome.{answer, andThen, mapped, Wrote};
 ghost use Rattle.zigbee_types.specs.Answers.{writtenSays};
@@ -214,8 +214,8 @@ fn on_leave(payload: &[u8]) -> Response
 // ---- any request
 
 // Answers a request: a reply in the buffer, or a leave for the host, with the table after it. Refused are bad tables, then a cluster
-// that is none of the ten, then too short a payload, then a descriptor of too many clusters, then too short a buffer; buffer and
-// table are then as they were.
+// that is none of the ten, then a payload that is malformed, then a descriptor of too many clusters, then too short a buffer; buffer
+// and table are then as they were.
 pub fn dispatch<'a>(
     device: DeviceDescriptorConfig,
     ieee_addr: IeeeAddress,

@@ -1,6 +1,5 @@
--- `answer_chunk` is safe and ends. The loop's invariant: what waits lies within the buffer, which stays
--- as long as it is. The measure is how many characters of the chunk
--- are left. Assumes nothing.
+-- `answer_chunk` is safe and ends. The loop's invariant: what waits lies within the buffer, which stays as long as it is. The measure
+-- is how many characters of the chunk are left. Assumes nothing.
 use Prim.Native.Nat.{_-_, _≤_}
 use borrow.Author.Needs.{needs}
 use native.Mathlib.Omega.{arith}

@@ -1,4 +1,4 @@
--- `finish` is safe: the last line ends within the buffer. Assumes nothing.
+-- `finish` is safe: the last lines end within the buffer. Assumes nothing.
 use borrow.Author.Needs.{needs}
 use Rattle.answer.proofs.Behind.{told-within}
 use Rattle.answer.proofs.finish.Statement.{statement}
@@ -11,11 +11,9 @@ finish-spec =
     tie.close
     (tie.spec
     (λ c κs. search laws)  -- end-requires
-    (λ c κs. search laws)  -- answer-behind-requires
-    (λ c κs. search laws)  -- write-out-requires
-    (λ c κs. search laws)  -- write-closing-requires
+    (λ c κs. search laws)  -- answer-last-requires
     (λ c. search laws)  -- enum-known-written
-    (λ c κs. told-within _ _ (c .before .before .before .before .before .before .write-closing .ensures) (c .before .before .written .given .1))  -- write-out-requires-2
+    (λ c κs. search laws)  -- write-out-requires
     (λ c. search laws)  -- enum-told
     (λ c. search laws)  -- same-length
     (λ c. search laws)  -- returns

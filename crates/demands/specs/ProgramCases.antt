@@ -1,0 +1,58 @@
+-- The program `answer`: what it writes for an input, document 01's sample first. Both sides are lines of text.
+use Prim.Native.Nat.{ℕ}
+use Prim.Native.Char.{code}
+use Prim.Native.String.{String, [] as empty, _∷_ as _then_}
+use mathlib.Core.List.{List, [], _∷_, _++_}
+use Rattle.zigbee_types.specs.Outcome.{answer}
+use Rattle.answer_lines.specs.Session.{answers}
+use Rattle.demands.specs.Cases.{Case}
+
+-- the characters of a text
+abbrev pub typed : String → List ℕ
+typed empty = []
+typed (c then rest) = code c ∷ typed rest
+
+-- lines of text, a line feed behind each
+abbrev pub typedLines : List String → List ℕ
+typedLines [] = []
+typedLines (line ∷ lines) = typed line ++ 10 ∷ typedLines lines
+
+-- the sample
+unfoldable pub Sample : Case
+Sample =
+    record {
+      says =
+          answer (answers (typedLines ("0005 073412" ∷ "0006 093412040101020400" ∷ "0021 0A0807060504030201010204010300" ∷ "0007 00" ∷ [])))
+          ∷ [];
+      expected =
+          answer (typedLines ("8005 07003412020102" ∷ "8006 090034120101" ∷ "8021 0A00" ∷ "R2" ∷ "bindings 1" ∷ []))
+          ∷ [];
+    }
+
+-- what is no request: nothing, no payload, an odd digit, two spaces, no space, another character, a carriage return. Digits of either
+-- case are read.
+unfoldable pub Typed : Case
+Typed =
+    record {
+      says =
+          answer
+          (answers
+          (typedLines
+          ("" ∷ "0005" ∷ "0005 " ∷ "0005 07341" ∷ "0005  073412" ∷ "0005073412" ∷ "0005 07341G" ∷ "0005 073412\r" ∷ "0034 01080706050403020100" ∷ "000a 00" ∷ "0021 0a0807060504030201010204010300" ∷ [])))
+          ∷ [];
+      expected =
+          answer (typedLines ("?" ∷ "?" ∷ "?" ∷ "?" ∷ "?" ∷ "?" ∷ "?" ∷ "?" ∷ "leave" ∷ "R2" ∷ "8021 0A00" ∷ "bindings 1" ∷ []))
+          ∷ [];
+    }
+
+-- the end of the input: without a line; behind a line feed; behind a line without one
+unfoldable pub Ending : Case
+Ending =
+    record {
+      says = answer (answers []) ∷ answer (answers (10 ∷ [])) ∷ answer (answers (typed "0005 073412")) ∷ [];
+      expected =
+          answer (typedLines ("bindings 0" ∷ []))
+          ∷ answer (typedLines ("?" ∷ "bindings 0" ∷ []))
+          ∷ answer (typedLines ("8005 07003412020102" ∷ "bindings 0" ∷ []))
+          ∷ [];
+    }
