@@ -1,10 +1,11 @@
--- Answers that wait in a buffer: what is written behind them ends within it. Assumes nothing.
+-- Answers that wait in a buffer: what a turn writes behind them ends within it, and the turn takes a character. Assumes nothing.
 use Prim.Native.Nat.{ℕ, _+_, _-_, _^_, _≤_, _<_}
 use native.Mathlib.Omega.{arith}
-use mathlib.Core.Path.{_≡_, sym}
+use mathlib.Core.Path.{_≡_, refl, sym}
 use mathlib.Core.List.{List}
-use lib.ListN.{length, take}
+use lib.ListN.{length, take, drop}
 use lib.Seq.{length-take-le}
+use borrow.Author.Tests.{le-leb}
 use borrow.Rule.Slice.PartMut.{midOf, putMid, mid-len, same-len-mid}
 use mir.Syntax.{w64}
 use mir.Val.{Fits}
@@ -14,7 +15,10 @@ use Rattle.zigbee_types.specs.declared.Written.{Written}
 use Rattle.zigbee_types.specs.declared.Written.the-variants.{Length}
 use Rattle.zigbee_types.proofs.Outcomes.{wrote-within}
 use Rattle.aps_binding_table.specs.declared.binding.BindingTable.{BindingTable}
-use Rattle.answer_lines.specs.Session.{Said, Speaks}
+use Rattle.lines.specs.Splitter.{Pending}
+use Rattle.lines.proofs.Taken.{split-takes}
+use Rattle.answer_lines.specs.Turns.{takenWithin, Turns}
+use Rattle.answer_lines.specs.declared.session.Turn.{Turn}
 
 -- the front of a buffer has as many characters as are asked for
 pub front-part : (n : ℕ) (buffer : List ℕ) → n ≤ length buffer → n ≡ length (take n buffer)
@@ -28,16 +32,22 @@ told-within o w {n} wrote is =
     let inside = wrote-within o wrote in
     rw (inside .same) (inside .most n (rw is))
 
--- an answer behind what waits
-module _ (s : Said) (out : List ℕ) (end : ℕ) (w : Written) {t u : BindingTable} {v : List ℕ} {n : ℕ} (room : end ≤ length out) (h : Speaks s t (midOf end (length out - end) out) (writtenSays w) u v) (is : w ≡ Length n) where
-  ends : end + n ≤ length out
-  unfolding writtenSays
-  ends =
-      let inside = wrote-within _ (h .wrote) .most n (rw is) in
-      omega (arith, mid-len end (length out) out (omega arith))
+-- a turn behind what waits
+module _ (p : Pending) (chunk : List ℕ) (at end : ℕ) (out : List ℕ) {t : BindingTable} {r : Turn} {line v : List ℕ} (room : end + 262 ≤ length out) (h : Turns (takenWithin (length (midOf end (length out - end) out)) p (drop at chunk)) t at (midOf end (length out - end) out) r line v) where
+  part : length (midOf end (length out - end) out) ≡ length out - end
+  part = mid-len end (length out) out (omega arith)
 
-  pub behind-fits : length out < 2 ^ 64 → Fits w64 (end + n)
-  behind-fits short = record { fits = omega (arith, ends) }
+  ends : end + r .length ≤ length out
+  ends = omega (arith, part, wrote-within _ (h .wrote) .most (r .length) refl)
 
-  pub behind-within : end + n ≤ length (putMid end (length out - end) out v)
-  behind-within = rw (same-len-mid end (length out - end) out v (wrote-within _ (h .wrote) .same)) ends
+  pub turn-moves : at < length chunk → at < r .at
+  unfolding takenWithin
+  turn-moves more =
+      let moved = rw (le-leb 262 (length (midOf end (length out - end) out)) (omega (arith, part))) at (h .moved) in
+      omega (arith, split-takes p chunk at more)
+
+  pub turn-fits : length out < 2 ^ 64 → Fits w64 (end + r .length)
+  turn-fits short = record { fits = omega (arith, ends) }
+
+  pub turn-within : end + r .length ≤ length (putMid end (length out - end) out v)
+  turn-within = rw (same-len-mid end (length out - end) out v (wrote-within _ (h .wrote) .same)) ends

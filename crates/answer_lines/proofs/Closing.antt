@@ -6,7 +6,6 @@ use mathlib.Core.Path.{_≡_, refl, sym}
 use mathlib.Core.List.{List}
 use lib.ListN.{length, take, drop, set, length-append}
 use lib.Seq.{take-at, length-take-le}
-use borrow.Author.Tests.{le-leb}
 use borrow.Rule.Slice.PartMut.{midOf, putMid, mid-len}
 use mir.Syntax.{w64}
 use mir.Val.{Fits}
@@ -21,7 +20,7 @@ use Rattle.lines.specs.Lines.{LINE-FEED, Line}
 use Rattle.decimal.specs.Decimal.{decimal}
 use Rattle.decimal.proofs.Digits.{length-below}
 use Rattle.our_device.specs.OurDevice.{ours}
-use Rattle.answer_lines.specs.Session.{BINDINGS, countText, closing, spoken, session, withText, tableThen, lineEnd, Speaks}
+use Rattle.answer_lines.specs.Session.{BINDINGS, countText, closing, spoken, session, lineEnd, Tells}
 use Rattle.answer_lines.proofs.Ends.{text-told, text-ended, more-told, both-written}
 
 -- a number of the machine has at most 20 digits
@@ -87,48 +86,36 @@ module _ (count : ℕ) (small : count < 2 ^ 64) where
 
 -- ---- behind the last line
 
-module _ (t : BindingTable) (lines : List Line) (d : Written) {out middle : List ℕ} {u : BindingTable} (room : 292 ≤ length out) (h : Speaks (spoken ours t lines) t out (writtenSays d) u middle) where
-  few : length (spoken ours t lines .text) ≤ 262
-  few = h .short (omega arith)
+module _ (t : BindingTable) (lines : List Line) {out middle : List ℕ} {u : BindingTable} {n : ℕ} (room : 292 ≤ length out) (h : Tells (spoken ours t lines) 262 out (answer n) u middle) where
+  few : n ≤ 262
+  few = omega (arith, h .short, wrote-bytes (h .wrote) .long)
 
-  answered : Wrote (answer (spoken ours t lines .text)) out (writtenSays d) middle
-  unfolding withText mapped
-  answered = rw (le-leb 262 (length out) (omega arith)) at (h .wrote)
+  same : length middle ≡ length out
+  same = wrote-within _ (h .wrote) .same
 
-  -- the answer is not refused
-  pub last-refused : {why : Refusal} → d ≡ Refused why → Wrote (answer (session ours t lines)) out (answer 0) middle
-  unfolding writtenSays
-  last-refused is = absurd (refused (rw is at (text-told _ answered (omega (arith, few)))))
+  pub last-start : n ≤ length middle
+  last-start = omega (arith, few, same)
 
-  module _ {n : ℕ} (is : d ≡ Length n) where
-    text : Wrote (answer (spoken ours t lines .text)) out (answer n) middle
-    unfolding writtenSays
-    text = rw is at answered
+  part : length (midOf n (length middle - n) middle) ≡ length middle - n
+  part = mid-len n (length middle) middle (omega arith)
 
-    pub last-start : n ≤ length middle
-    last-start = omega (arith, few, wrote-bytes text .long, wrote-within _ text .same)
+  -- there is room for the number
+  pub last-room : 30 ≤ length (midOf n (length middle - n) middle)
+  last-room = omega (arith, few, part, same)
 
-    part : length (midOf n (length middle - n) middle) ≡ length middle - n
-    part = mid-len n (length middle) middle (omega arith)
+  module _ {k : ℕ} {v : List ℕ} (p : Wrote (answer (closing (u .count))) (midOf n (length middle - n) middle) (answer k) v) where
+    both-room : n + k ≤ length out
+    both-room = omega (arith, part, wrote-within _ p .most k refl, few, same)
 
-    -- there is room for the number
-    pub last-room : 30 ≤ length (midOf n (length middle - n) middle)
-    last-room = omega (arith, few, part, wrote-bytes text .long, wrote-within _ text .same)
+    pub last-fits : length out < 2 ^ 64 → Fits w64 (n + k)
+    last-fits short = record { fits = omega (arith, both-room) }
 
-    module _ {k : ℕ} {v : List ℕ} (p : Wrote (answer (closing (u .count))) (midOf n (length middle - n) middle) (answer k) v) where
-      both-room : n + k ≤ length out
-      both-room = omega (arith, part, wrote-within _ p .most k refl, few, wrote-bytes text .long, wrote-within _ text .same)
-
-      pub last-fits : length out < 2 ^ 64 → Fits w64 (n + k)
-      last-fits short = record { fits = omega (arith, both-room) }
-
-      pub last-written : Wrote (answer (session ours t lines)) out (answer (n + k)) (putMid n (length middle - n) middle v)
-      unfolding session withText tableThen
-      last-written =
-          let table : u ≡ spoken ours t lines .table = rw (le-leb 262 (length out) (omega arith)) at (h .table) in
-          let same = rw table at p in
-          both-written (spoken ours t lines .text) (closing (spoken ours t lines .table .count)) text
-          (omega (arith, both-room, wrote-bytes text .long, wrote-bytes same .long)) same refl
+    pub last-written : Wrote (answer (session ours t lines)) out (answer (n + k)) (putMid n (length middle - n) middle v)
+    unfolding session
+    last-written =
+        let behind = rw (h .table) at p in
+        both-written (spoken ours t lines .text) (closing (spoken ours t lines .table .count)) (h .wrote)
+        (omega (arith, both-room, wrote-bytes (h .wrote) .long, wrote-bytes behind .long)) behind refl
 
 -- ---- from one buffer to another
 

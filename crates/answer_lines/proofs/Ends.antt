@@ -16,10 +16,10 @@ use Rattle.zigbee_types.specs.declared.Refusal.{Refusal}
 use Rattle.zigbee_types.specs.declared.Written.{Written}
 use Rattle.zigbee_types.specs.declared.Written.the-variants.{Length, Refused}
 use Rattle.zigbee_types.proofs.Fields.{sets-append}
-use Rattle.zigbee_types.proofs.Outcomes.{stored-front, wrote-stored, wrote-bytes, wrote-within}
+use Rattle.zigbee_types.proofs.Outcomes.{refused, stored-front, wrote-stored, wrote-bytes, wrote-within}
 use Rattle.zigbee_types.proofs.Parts.{part-told, part-stored}
 use Rattle.lines.specs.Lines.{LINE-FEED}
-use Rattle.answer_lines.specs.Session.{lineEnd, Ends}
+use Rattle.answer_lines.specs.Session.{Inside, lineEnd, Ends}
 
 -- ---- the code that puts it
 
@@ -31,23 +31,28 @@ module _ (n : ℕ) (buffer : List ℕ) where
   pub front-part : n ≤ length buffer → n ≡ length (take n buffer)
   front-part h = sym (length-take-le n buffer h)
 
-module _ (w : Written) (out : List ℕ) {n : ℕ} (is : w ≡ Length n) where
-  -- there is a place for it
-  pub end-place : ((k : ℕ) → writtenSays w ≡ answer k → k < length out) → n < length out
+module _ (w : Written) (out : List ℕ) (told : Inside (writtenSays w) out) where
+  module _ {n : ℕ} (is : w ≡ Length n) where
+    -- there is a place for it
+    pub end-place : n < length out
+    unfolding writtenSays
+    end-place =
+        let same = rw is at (told .said) in
+        let long : n ≡ told .long = cc in
+        omega (arith, told .within)
+
+    -- and the place behind it is a number that the machine has
+    pub end-fits : length out < 2 ^ 64 → Fits w64 (n + 1)
+    end-fits short = record { fits = omega (arith, end-place) }
+
+    pub end-put : Ends (writtenSays w) out (answer (n + 1)) (set out n LINE-FEED)
+    unfolding writtenSays lineEnd mapped
+    end-put = rw is (record { said = refl; left = refl })
+
+  -- a text that was written was not refused
+  pub end-refused : {why : Refusal} → w ≡ Refused why → Ends (writtenSays w) out (answer 0) out
   unfolding writtenSays
-  end-place inside = inside n (rw is)
-
-  -- and its length is a number that the machine has
-  pub end-fits : length out < 2 ^ 64 → ((k : ℕ) → writtenSays w ≡ answer k → k < length out) → Fits w64 (n + 1)
-  end-fits short inside = let place = end-place inside in record { fits = omega arith }
-
-  pub end-put : Ends (writtenSays w) out (writtenSays (Length (n + 1))) (set out n LINE-FEED)
-  unfolding writtenSays lineEnd mapped
-  end-put = rw is (record { said = refl; left = refl })
-
-pub end-none : (w : Written) (out : List ℕ) (why : Refusal) → w ≡ Refused why → Ends (writtenSays w) out (writtenSays (Refused why)) out
-unfolding writtenSays lineEnd mapped
-end-none w out why is = rw is (record { said = refl; left = refl })
+  end-refused is = absurd (refused (rw is at (told .said)))
 
 -- ---- what it makes of a text
 

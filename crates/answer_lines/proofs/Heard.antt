@@ -1,13 +1,10 @@
 -- A line that is heard: what `dispatch` answered as text, and the request that was read. Assumes nothing.
-use Prim.Native.Nat.{ℕ, _*_, _/_, _≤_, _<_}
+use Prim.Native.Nat.{ℕ, _≤_}
 use native.Mathlib.Omega.{arith}
 use mathlib.Core.Path.{_≡_, refl, sym}
-use mathlib.Core.Bool.{true, false, cond}
 use mathlib.Core.List.{List}
-use mathlib.Core.Option.{none, some}
 use lib.ListN.{length, take, drop, length-append, length-take}
 use lib.Seq.{take-at, length-take-le}
-use borrow.Author.Tests.{leb-false, le-leb}
 use Rattle.zigbee_types.specs.Outcome.{Outcome, answer, refusal, mapped, written, Wrote}
 use Rattle.zigbee_types.specs.Refusals.{refusalNumber}
 use Rattle.zigbee_types.specs.declared.Refusal.{Refusal}
@@ -98,7 +95,7 @@ module _ (o : Outcome Answer) {t u : BindingTable} {before after : List ℕ} (r 
 -- ---- the longest text
 
 -- with a reply of at most 128 bytes
-response-short : (r : Response) (buffer : List ℕ) → length buffer ≡ 128 → length (responseText r buffer) < 262
+response-short : (r : Response) (buffer : List ℕ) → length buffer ≡ 128 → length (responseText r buffer) ≤ 261
 unfolding responseText
 response-short (response.Reply cluster n) buffer long = rw (length-line, length-take) (omega arith)
 response-short (response.Leave q) buffer long = omega arith
@@ -111,7 +108,7 @@ pub request-answered :
     → length later ≡ 128
     → Dispatched (answered ours t (asking cluster payload buffer)) t buffer (responseSays r) u later
     → Wrote (answer (responseText r later)) before told after
-    → Tells (heard ours t (record { cluster = cluster; payload = payload })) before told u after
+    → Tells (heard ours t (record { cluster = cluster; payload = payload })) 261 before told u after
 unfolding heard asking
 request-answered cluster payload {later = later} r long longer d w =
     let same = rw long at d in

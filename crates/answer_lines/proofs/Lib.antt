@@ -4,5 +4,5 @@ pub mod Parsed
 pub mod Ends
 pub mod Closing
 pub mod Found
-pub mod Chunks
+pub mod Turns
 pub mod OneOutcome

@@ -1,5 +1,5 @@
 -- What was read of a line: a request with its payload in the buffer, or none; and that the longest line has room. Assumes nothing.
-use Prim.Native.Nat.{ℕ, _/_, _≤_, _<_}
+use Prim.Native.Nat.{ℕ, _≤_}
 use native.Mathlib.Omega.{arith}
 use mathlib.Core.Path.{_≡_, refl, sym}
 use mathlib.Core.Bool.{Bool, true, false, cond}
@@ -107,8 +107,8 @@ module _ (line : List ℕ) {before buffer : List ℕ} {r : ParsedLine} (l : Line
     -- and its request is answered
     pub line-heard :
         (t : BindingTable) {u : BindingTable} {out later : List ℕ} {told : Outcome ℕ}
-        → Tells (heard ours t (record { cluster = cluster; payload = take n buffer })) out told u later
-        → Tells (said ours t (whole line)) out told u later
+        → Tells (heard ours t (record { cluster = cluster; payload = take n buffer })) 261 out told u later
+        → Tells (said ours t (whole line)) 261 out told u later
     unfolding said option
     line-heard t h = rw (there .is) h
 
@@ -117,7 +117,7 @@ module _ (line : List ℕ) {before buffer : List ℕ} {r : ParsedLine} (l : Line
       {t : BindingTable} {out later : List ℕ} {told : Outcome ℕ}
       → r ≡ parsed.Other
       → Wrote (answer QUESTION) out told later
-      → Tells (said ours t (whole line)) out told t later
+      → Tells (said ours t (whole line)) 261 out told t later
   unfolding said option unheard
   line-unheard is w = rw (no-request (requestIn line) (rw is at l)) (record { wrote = w; table = refl; short = omega arith })
 
@@ -127,5 +127,5 @@ module _ (line : List ℕ) {before buffer : List ℕ} {r : ParsedLine} (l : Line
       → length before ≡ 2045
       → length line ≤ 4096
       → r ≡ parsed.Refused why
-      → Tells (said ours t (whole line)) out told t later
+      → Tells (said ours t (whole line)) 261 out told t later
   line-refused {why = why} room h is = absurd (never-full line (requestIn line) why refl h room (rw is at l))

@@ -1,3 +1,3 @@
 pub mod Session
-pub mod Chunks
+pub mod Turns
 pub mod OneOutcome

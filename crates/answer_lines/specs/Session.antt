@@ -1,9 +1,7 @@
 -- What the program `answer` writes for its lines (document 01, "Counter-cases").
 use Prim.Native.Nat.{ℕ, _+_, _≤_, _<_}
 use mathlib.Core.Path.{_≡_}
-use mathlib.Core.Bool.{cond}
 use mathlib.Core.List.{List, [], _∷_, _++_}
-use lib.Dec.{leb}
 use lib.ListN.{length, take, set}
 use Rattle.zigbee_types.specs.Lists.{option}
 use Rattle.zigbee_types.specs.Outcome.{Outcome, answer, refusal, mapped, Wrote}
@@ -62,11 +60,11 @@ heard h t q =
     let o = answered h t (record { cluster = q .cluster; payload = q .payload; room = REPLY }) in
     record { text = textOf o; table = tableAfter t o }
 
--- of a line that is none: `?`
+-- of a line that is no request: `?`
 unfoldable pub unheard : BindingTable → Said
 unheard t = record { text = QUESTION; table = t }
 
--- of a line: that it is none where it is too long
+-- of a line: one that is too long is no request
 unfoldable pub said : Host → BindingTable → Line → Said
 said h t (whole line) = option (unheard t) (heard h t) (requestIn line)
 said h t overlong = unheard t
@@ -89,7 +87,7 @@ BINDINGS = 98 ∷ 105 ∷ 110 ∷ 100 ∷ 105 ∷ 110 ∷ 103 ∷ 115 ∷ 32 ∷
 unfoldable pub countText : ℕ → List ℕ
 countText count = BINDINGS ++ decimal count
 
--- so it is at the end
+-- that, and a line feed
 unfoldable pub closing : ℕ → List ℕ
 closing count = countText count ++ (LINE-FEED ∷ [])
 
@@ -111,6 +109,12 @@ responseText (response.Reply cluster n) buffer = requestLine cluster (take n buf
 responseText (response.Leave q) buffer = LEAVE
 responseText (response.Refused why) buffer = refusalText (refusalNumber why)
 
+-- a text was told, and the buffer goes on behind it
+pub record Inside (told : Outcome ℕ) (buffer : List ℕ) : Type 0 where
+  pub long : ℕ
+  pub said : told ≡ answer long
+  pub within : long < length buffer
+
 -- the buffer with a line feed behind a text of that length; without a text, as it was
 unfoldable pub lineEnd : List ℕ → Outcome ℕ → List ℕ
 lineEnd before (answer n) = set before n LINE-FEED
@@ -125,24 +129,8 @@ pub record Ends (told : Outcome ℕ) (before : List ℕ) (more : Outcome ℕ) (a
 abbrev pub TEXT : ℕ
 TEXT = 262
 
--- a line is answered, without its line feed: the text is written, and the table after it; with a line feed there is room for it
-pub record Tells (s : Said) (before : List ℕ) (told : Outcome ℕ) (u : BindingTable) (after : List ℕ) : Type 0 where
+-- lines are answered: the text is written, which has at most so many characters, and the table is the one after it
+pub record Tells (s : Said) (most : ℕ) (before : List ℕ) (told : Outcome ℕ) (u : BindingTable) (after : List ℕ) : Type 0 where
   pub wrote : Wrote (answer (s .text)) before told after
   pub table : u ≡ s .table
-  pub short : length (s .text) < TEXT
-
--- refusal 5: there is not that room, whatever is to be written
-unfoldable pub withText : ℕ → Said → Outcome Said
-withText room s = cond (leb TEXT room) (answer s) (refusal 5)
-
--- the binding table after it; a refusal leaves it
-unfoldable pub tableThen : BindingTable → Outcome Said → BindingTable
-tableThen t (answer s) = s .table
-tableThen t (refusal n) = t
-
--- a call that comes to s: its text is written, or refusal 5 is told; the table after it; and where there is room for any text, there
--- is room for this one
-pub record Speaks (s : Said) (t : BindingTable) (before : List ℕ) (told : Outcome ℕ) (u : BindingTable) (after : List ℕ) : Type 0 where
-  pub wrote : Wrote (mapped (λ r. r .text) (withText (length before) s)) before told after
-  pub table : u ≡ tableThen t (withText (length before) s)
-  pub short : TEXT ≤ length before → length (s .text) ≤ TEXT
+  pub short : length (s .text) ≤ most

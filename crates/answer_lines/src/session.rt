@@ -5,21 +5,24 @@ use hex_lines::ParsedLine;
 use hex_lines::parse_line;
 use hex_lines::write_line;
 use lines::splitter::Found;
+use lines::splitter::Splitter;
 use our_device::our_response;
 use zdo_dispatcher::dispatcher::Response;
 use zigbee_types::Refusal;
 use zigbee_types::Written;
 ghost use Prim.Native.Nat.{ℕ, _<_, _≤_};
 ghost use mathlib.Core.Path.{_≡_};
-ghost use lib.ListN.{length, take, replicate};
+ghost use lib.ListN.{length, take, drop, replicate};
 ghost use Rattle.zigbee_types.specs.Answers.{writtenSays};
 ghost use Rattle.zigbee_types.specs.Outcome.{answer, Wrote};
 ghost use Rattle.zigbee_types.specs.Refusals.{refusalNumber};
 ghost use Rattle.lines.specs.Chunks.{foundLine};
 ghost use Rattle.lines.specs.Lines.{whole};
+ghost use Rattle.lines.specs.Splitter.{pending};
 ghost use Rattle.our_device.specs.OurDevice.{ours};
 ghost use Rattle.aps_binding_table.specs.Table.{emptyTable};
-ghost use Rattle.answer_lines.specs.Session.{LINE, LIMIT, heard, said, spoken, countText, closing, session, refusalText, responseText, Tells, Ends, Speaks};
+ghost use Rattle.answer_lines.specs.Session.{LINE, LIMIT, heard, said, spoken, countText, closing, session, refusalText, responseText, Inside, Ends, Tells};
+ghost use Rattle.answer_lines.specs.Turns.{takenWithin, Turns, ending};
 
 // The longest line, without its line feed.
 pub const LINE: usize = 4096;
@@ -39,19 +42,29 @@ const REPLY: usize = 128;
 // The longest payload of a line.
 const PAYLOAD: usize = 2045;
 
-// The binding table after a line, and how much text was written, or why none was.
-pub struct Answered {
+// What is kept from turn to turn: the binding table, and how much of a line has begun.
+pub struct Session {
     pub table: BindingTable,
-    pub written: Written,
+    pub splitter: Splitter,
 }
 
-// ---- the beginning
+// The session after a turn, the place in the chunk behind what was taken, and the length of what was written.
+pub struct Turn {
+    pub session: Session,
+    pub at: usize,
+    pub length: usize,
+}
 
-// The binding table before the first line: empty.
-pub fn first_table() -> BindingTable
-    ensures { λ r. ⌜ r ≡ emptyTable LIMIT ⌝ }
-{
-    BindingTable::new(LIMIT)
+// The binding table after a line, and how much of its text was written, without the line feed.
+struct Answered {
+    table: BindingTable,
+    written: Written,
+}
+
+// The same, with the line feed.
+struct Spoken {
+    table: BindingTable,
+    length: usize,
 }
 
 // A buffer for the longest line.
@@ -106,7 +119,7 @@ fn write_response(response: Response, reply: &[u8], out: &mut [u8]) -> Written
 
 // Answers a request.
 fn answer_request(table: BindingTable, cluster: u16, payload: &[u8], out: &mut [u8]) -> Answered
-    ensures { λ r. ⌜ Tells (heard ours table (record { cluster = cluster; payload = now (payload .entry) })) (now (out .entry)) (writtenSays (r .written)) (r .table) (now (out .exit)) ⌝ }
+    ensures { λ r. ⌜ Tells (heard ours table (record { cluster = cluster; payload = now (payload .entry) })) 261 (now (out .entry)) (writtenSays (r .written)) (r .table) (now (out .exit)) ⌝ }
 {
     let mut reply = [0u8; REPLY];
     let responded = our_response(table, cluster, payload, &mut reply);
@@ -121,7 +134,7 @@ fn answer_request(table: BindingTable, cluster: u16, payload: &[u8], out: &mut [
 // Answers a line that is not too long.
 fn answer_line(table: BindingTable, line: &[u8], out: &mut [u8]) -> Answered
     requires { ⌜ length (now line) ≤ 4096 ⌝ }
-    ensures { λ r. ⌜ Tells (said ours table (whole (now (line .entry)))) (now (out .entry)) (writtenSays (r .written)) (r .table) (now (out .exit)) ⌝ }
+    ensures { λ r. ⌜ Tells (said ours table (whole (now (line .entry)))) 261 (now (out .entry)) (writtenSays (r .written)) (r .table) (now (out .exit)) ⌝ }
 {
     let mut payload = [0u8; PAYLOAD];
     let parsed = parse_line(line, &mut payload);
@@ -142,17 +155,17 @@ fn answer_line(table: BindingTable, line: &[u8], out: &mut [u8]) -> Answered
 
 // ---- with the line feed
 
-// Puts a line feed behind a text, where one was written.
-fn end_line(written: Written, out: &mut [u8]) -> Written
-    requires { ⌜ ((n : ℕ) → writtenSays written ≡ answer n → n < length (now out)) ⌝ }
-    ensures { λ r. ⌜ Ends (writtenSays written) (now (out .entry)) (writtenSays r) (now (out .exit)) ⌝ }
+// Puts a line feed behind a text that was written, and tells the place behind it.
+fn end_line(written: Written, out: &mut [u8]) -> usize
+    requires { ⌜ Inside (writtenSays written) (now out) ⌝ }
+    ensures { λ r. ⌜ Ends (writtenSays written) (now (out .entry)) (answer r) (now (out .exit)) ⌝ }
 {
     match written {
         Written::Length(n) => {
             out[n] = b'\n';
-            Written::Length(n + 1)
+            n + 1
         }
-        Written::Refused(why) => Written::Refused(why),
+        Written::Refused(_) => 0,
     }
 }
 
@@ -166,40 +179,29 @@ fn front(line: &[u8], count: usize) -> &[u8]
     &line[..count]
 }
 
-// Answers what the splitter found: writes the answer to a line at the front of a buffer, or nothing where no line has ended. A buffer
-// that has no room for every text is refused, and then nothing is written and the table is as it was.
-pub fn answer_found(
-    table: BindingTable,
-    found: Found,
-    line: &[u8; LINE],
-    out: &mut [u8],
-) -> Answered
-    ensures { λ r. ⌜ Speaks (spoken ours table (foundLine found (now (line .entry)))) table (now (out .entry)) (writtenSays (r .written)) (r .table) (now (out .exit)) ⌝ }
+// Answers what the splitter found: writes the answer to a line, or nothing where no line has ended.
+fn answer_found(table: BindingTable, found: Found, line: &[u8; LINE], out: &mut [u8]) -> Spoken
+    requires { ⌜ 262 ≤ length (now out) ⌝ }
+    ensures { λ r. ⌜ Tells (spoken ours table (foundLine found (now (line .entry)))) 262 (now (out .entry)) (answer (r .length)) (r .table) (now (out .exit)) ⌝ }
 {
-    if out.len() < TEXT {
-        return Answered {
-            table,
-            written: Written::Refused(Refusal::ShortBuffer),
-        };
-    }
     match found {
         Found::Line(count) => {
             let answered = answer_line(table, front(line, count), out);
             let table = answered.table;
             let written = answered.written;
-            Answered {
+            Spoken {
                 table,
-                written: end_line(written, out),
+                length: end_line(written, out),
             }
         }
-        Found::Overlong => Answered {
-            table,
-            written: write_text(b"?\n", out),
-        },
-        Found::Nothing => Answered {
-            table,
-            written: Written::Length(0),
-        },
+        Found::Overlong => {
+            let written = write_text(b"?", out);
+            Spoken {
+                table,
+                length: end_line(written, out),
+            }
+        }
+        Found::Nothing => Spoken { table, length: 0 },
     }
 }
 
@@ -233,21 +235,61 @@ fn write_last(table: BindingTable, found: Found, line: &[u8; LINE], out: &mut [u
     requires { ⌜ 292 ≤ length (now out) ⌝ }
     ensures { λ r. ⌜ Wrote (answer (session ours table (foundLine found (now (line .entry))))) (now (out .entry)) (answer r) (now (out .exit)) ⌝ }
 {
-    let answered = answer_found(table, found, line, out);
-    let count = answered.table.count;
-    let written = answered.written;
-    match written {
-        Written::Length(n) => n + write_closing(count, &mut out[n..]),
-        Written::Refused(_) => 0,
-    }
+    let spoken = answer_found(table, found, line, out);
+    let count = spoken.table.count;
+    let end = spoken.length;
+    end + write_closing(count, &mut out[end..])
 }
 
-// The end of the input: answers the last line, if one was found, and then tells how many entries the binding table holds. Too short a
-// buffer is refused, and nothing is written.
-pub fn answer_last(table: BindingTable, found: Found, line: &[u8; LINE], out: &mut [u8]) -> Written
-    ensures { λ r. ⌜ Wrote (answer (session ours table (foundLine found (now (line .entry))))) (now (out .entry)) (writtenSays r) (now (out .exit)) ⌝ }
-{
-    let mut text = [0u8; LAST];
-    let length = write_last(table, found, line, &mut text);
-    write_text(&text[..length], out)
+// ---- in turns
+
+impl Session {
+    // No binding, and no line that has begun.
+    pub fn new() -> Self
+        ensures { λ r. ⌜ (r .table ≡ emptyTable LIMIT) × (r .splitter .count ≡ 0) ⌝ }
+    {
+        Session {
+            table: BindingTable::new(LIMIT),
+            splitter: Splitter::new(),
+        }
+    }
+
+    // A turn: takes the characters of a chunk from a place on, up to a line's end or all of them, and writes the answer to the line that
+    // ended, if one did, at the front of a buffer. Where that has no room for every text, nothing is taken and nothing is written.
+    pub fn next(self, chunk: &[u8], at: usize, line: &mut [u8; LINE], out: &mut [u8]) -> Turn
+        ensures { λ r. ⌜ Turns (takenWithin (length (now (out .entry))) (pending (self .splitter .count) (now (line .entry))) (drop at (now (chunk .entry)))) (self .table) at (now (out .entry)) r (now (line .exit)) (now (out .exit)) ⌝ }
+    {
+        if out.len() < TEXT {
+            return Turn {
+                session: self,
+                at,
+                length: 0,
+            };
+        }
+        let table = self.table;
+        let splitter = self.splitter;
+        let split = splitter.next(chunk, at, line);
+        let found = split.found;
+        let spoken = answer_found(table, found, line, out);
+        let table = spoken.table;
+        let splitter = split.splitter;
+        Turn {
+            session: Session { table, splitter },
+            at: split.at,
+            length: spoken.length,
+        }
+    }
+
+    // The last turn, the end of the input: answers the line that has begun, if it has a character, and then tells how many entries the
+    // binding table holds. Too short a buffer is refused, and nothing is written.
+    pub fn end(self, line: &[u8; LINE], out: &mut [u8]) -> Written
+        ensures { λ r. ⌜ Wrote (answer (ending (pending (self .splitter .count) (now (line .entry))) (self .table))) (now (out .entry)) (writtenSays r) (now (out .exit)) ⌝ }
+    {
+        let table = self.table;
+        let splitter = self.splitter;
+        let found = splitter.end(line);
+        let mut text = [0u8; LAST];
+        let length = write_last(table, found, line, &mut text);
+        write_text(&text[..length], out)
+    }
 }

@@ -106,4 +106,4 @@ first-more n h = rw (decimal-more n h, List·getD-append (decimal (n / 10)) (dig
 pub decimal-short : DecimalShort
 decimal-short n h =
     by-ten (λ n. 0 < n → 48 < getD (decimal n) 0 0) (λ n l s. rw (decimal-one n l) (omega arith))
-    (λ n l p s. rw (first-more n l) (p (omega arith))) n (omega arith)
+    (λ n l p s. rw (first-more n l) (p (omega arith))) n h

@@ -1,5 +1,5 @@
 -- What digits stand for, and that those of a number stand for it, as statements. A term of each stands in proofs/.
-use Prim.Native.Nat.{ℕ, _+_, _-_, _*_, _<_, _≤_}
+use Prim.Native.Nat.{ℕ, _+_, _-_, _*_, _<_}
 use mathlib.Core.Path.{_≡_}
 use mathlib.Core.Bool.{true, _&&_}
 use mathlib.Core.List.{List, [], _∷_}
@@ -21,6 +21,6 @@ DecimalReadsBack = (n : ℕ) → readOn 0 (decimal n) ≡ n
 abbrev pub DecimalDigits : Type 0
 DecimalDigits = (n : ℕ) → all (λ c. leb 48 c && leb c 57) (decimal n) ≡ true
 
--- and the first of more than one is no zero
+-- and the first is no zero, but for 0 itself
 abbrev pub DecimalShort : Type 0
-DecimalShort = (n : ℕ) → 10 ≤ n → 48 < getD (decimal n) 0 0
+DecimalShort = (n : ℕ) → 0 < n → 48 < getD (decimal n) 0 0

@@ -50,7 +50,6 @@ use Rattle.zdo_dispatcher.specs.Answers.{Told, replied, leaving, responseSays}
 use Rattle.zdo_dispatcher.specs.declared.dispatcher.Response.{Response}
 use Rattle.zdo_dispatcher.specs.declared.dispatcher.Response.the-variants as response
 use Rattle.zdo_dispatcher.proofs.OneDispatched.{one-dispatched}
-use Rattle.answer_lines.proofs.OneOutcome.{one-speaks}
 use Rattle.demands.specs.OneAnswer.{Determines, OneAnswer}
 
 one-written : Determines writtenSays
@@ -147,9 +146,4 @@ one-answer =
           let (told, table, left) = one-dispatched o t before _ _ _ _ after later p q in
           let response = one-response (r .response) (s .response) told in
           (λ i. record { table = table i; response = response i }, left);
-      answerer =
-          λ o t before r s after later p q.
-          let (told, table, left) = one-speaks o t before _ _ _ _ after later p q in
-          let written = one-written (r .written) (s .written) told in
-          (λ i. record { table = table i; written = written i }, left);
     }

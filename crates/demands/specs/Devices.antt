@@ -1,6 +1,6 @@
 -- Devices like that of document 01's counter-cases, with other records and pools.
 use Prim.Native.Nat.{ℕ, _-_}
-use mathlib.Core.List.{List, _∷_, _++_}
+use mathlib.Core.List.{List, _++_}
 use lib.ListN.{length, replicate}
 use Rattle.zigbee_types.specs.Addresses.{ieeeOf, shortOf}
 use Rattle.zdo_device.specs.Tables.{Pools}

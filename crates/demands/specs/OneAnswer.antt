@@ -22,8 +22,6 @@ use Rattle.zdo_matching.specs.Answers.{matchingSays}
 use Rattle.zdo_matching.specs.declared.descriptor.Matching.{Matching}
 use Rattle.zdo_dispatcher.specs.Answers.{Answer, responseSays, Dispatched}
 use Rattle.zdo_dispatcher.specs.declared.dispatcher.Responded.{Responded}
-use Rattle.answer_lines.specs.Session.{Said, Speaks}
-use Rattle.answer_lines.specs.declared.session.Answered.{Answered}
 
 -- what an answer says determines it
 abbrev pub Determines : {A B : Type 0} → (A → B) → Type 0
@@ -31,7 +29,7 @@ Determines {A} says = (a b : A) → says a ≡ says b → a ≡ b
 
 -- so it is with each enum by which a public function answers or refuses (that of a read line is in `OneLineRead`), and with those that
 -- hold a record or a number, or none; a writer's contract determines its answer and the buffer, so does matching's, a bind's or an
--- unbind's its answer and its table, and the dispatcher's and that of an answered line all three
+-- unbind's its answer and its table, and the dispatcher's all three
 pub record OneAnswer : Type 0 where
   pub written : Determines writtenSays
   pub lists : Determines listsSays
@@ -79,9 +77,4 @@ pub record OneAnswer : Type 0 where
       (o : Outcome Answer) (t : BindingTable) (before : List ℕ) (r s : Responded) (after later : List ℕ)
       → Dispatched o t before (responseSays (r .response)) (r .table) after
       → Dispatched o t before (responseSays (s .response)) (s .table) later
-      → (r ≡ s) × (after ≡ later)
-  pub answerer :
-      (o : Said) (t : BindingTable) (before : List ℕ) (r s : Answered) (after later : List ℕ)
-      → Speaks o t before (writtenSays (r .written)) (r .table) after
-      → Speaks o t before (writtenSays (s .written)) (s .table) later
       → (r ≡ s) × (after ≡ later)

@@ -1,8 +1,9 @@
--- The program `answer`: what it writes for an input, document 01's sample first. Both sides are lines of text.
+-- The program `answer`: what it writes for an input, document 01's sample first. Inputs and outputs are texts.
 use Prim.Native.Nat.{ℕ}
 use Prim.Native.Char.{code}
 use Prim.Native.String.{String, [] as empty, _∷_ as _then_}
-use mathlib.Core.List.{List, [], _∷_, _++_}
+use mathlib.Core.List.{List, [], _∷_, _++_, map}
+use lib.ListN.{replicate}
 use Rattle.zigbee_types.specs.Outcome.{answer}
 use Rattle.answer_lines.specs.Session.{answers}
 use Rattle.demands.specs.Cases.{Case}
@@ -29,8 +30,8 @@ Sample =
           ∷ [];
     }
 
--- what is no request: nothing, no payload, an odd digit, two spaces, no space, another character, a carriage return. Digits of either
--- case are read.
+-- what is no request: nothing, no payload, an odd digit, two spaces, no space, another character in each place, a carriage return; and
+-- what is one: a leave, an unknown cluster, too short a payload, and a bind in digits of either case
 unfoldable pub Typed : Case
 Typed =
     record {
@@ -38,10 +39,25 @@ Typed =
           answer
           (answers
           (typedLines
-          ("" ∷ "0005" ∷ "0005 " ∷ "0005 07341" ∷ "0005  073412" ∷ "0005073412" ∷ "0005 07341G" ∷ "0005 073412\r" ∷ "0034 01080706050403020100" ∷ "000a 00" ∷ "0021 0a0807060504030201010204010300" ∷ [])))
+          ("" ∷ "0005" ∷ "0005 " ∷ "0005 07341" ∷ "0005  073412" ∷ "0005  0734121" ∷ "0005073412" ∷ "00050073412" ∷ "0005x073412" ∷ "000G 073412" ∷ "0005 07341G" ∷ "0005 073412\r"
+          ∷ "0034 01080706050403020100" ∷ "000a 00" ∷ "0005 07" ∷ "0021 0a0807060504030201010204010300" ∷ [])))
           ∷ [];
       expected =
-          answer (typedLines ("?" ∷ "?" ∷ "?" ∷ "?" ∷ "?" ∷ "?" ∷ "?" ∷ "?" ∷ "leave" ∷ "R2" ∷ "8021 0A00" ∷ "bindings 1" ∷ []))
+          answer
+          (typedLines
+          ("?" ∷ "?" ∷ "?" ∷ "?" ∷ "?" ∷ "?" ∷ "?" ∷ "?" ∷ "?" ∷ "?" ∷ "?" ∷ "?" ∷ "leave" ∷ "R2" ∷ "R3" ∷ "8021 0A00" ∷ "bindings 1" ∷ []))
+          ∷ [];
+    }
+
+-- a line of 4,095 characters is answered, one of 4,096 has no request's shape, and one of 4,097 is too long
+unfoldable pub Long : Case
+Long =
+    record {
+      says = map (λ zeros. answer (answers (typed "0005 073412" ++ replicate zeros 48))) (4084 ∷ 4085 ∷ 4086 ∷ []);
+      expected =
+          answer (typedLines ("8005 07003412020102" ∷ "bindings 0" ∷ []))
+          ∷ answer (typedLines ("?" ∷ "bindings 0" ∷ []))
+          ∷ answer (typedLines ("?" ∷ "bindings 0" ∷ []))
           ∷ [];
     }
 

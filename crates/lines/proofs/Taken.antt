@@ -13,7 +13,6 @@ use Rattle.lines.specs.Lines.{LINE-FEED}
 use Rattle.lines.specs.Splitter.{Pending, pending, grown, ended, later, split, Splits}
 use Rattle.lines.specs.declared.splitter.Found.{Found}
 use Rattle.lines.specs.declared.splitter.Found.the-variants.{Nothing}
-use Rattle.lines.specs.declared.splitter.Split.{Split}
 
 -- a loop that takes characters from a place of a chunk on has come to i, and the line that has begun is q: what is left to do is what
 -- the whole is
@@ -98,9 +97,5 @@ split-moves p c chunk = go (eqb c LINE-FEED)
     go true = omega arith
     go false = omega arith
 
-pub next-moves :
-    (p : Pending) (chunk : List ℕ) (at : ℕ) {r : Split} {after : List ℕ} → Splits (split p (drop at chunk)) at r after → at < length chunk → at < r .at
-next-moves p chunk at s h =
-    let some = split-moves p (getD chunk at 0) (drop (suc at) chunk) in
-    let moves : 0 < split p (drop at chunk) .taken = rw (drop-cons chunk at 0 h) some in
-    omega (arith, s .moved)
+pub split-takes : (p : Pending) (chunk : List ℕ) (at : ℕ) → at < length chunk → 0 < split p (drop at chunk) .taken
+split-takes p chunk at h = rw (drop-cons chunk at 0 h) (split-moves p (getD chunk at 0) (drop (suc at) chunk))

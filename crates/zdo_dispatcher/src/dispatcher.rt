@@ -134,7 +134,7 @@ fn link_rsp(seq: u8, status: LinkStatus, out: &mut [u8]) -> Written
     }
 }
 
-// Replies to a bind or unbind request whose source has a status, and binds or unbinds where that is ours. Too short a buffer is refused
+// Replies to a bind or unbind request whose source has a status, and binds or unbinds where that is SUCCESS. Too short a buffer is refused
 // before anything is stored.
 fn link_answer(
     link: Link,

@@ -22,7 +22,6 @@ answer-all-spec =
     Inv-loop
     μ-loop
     (λ c κs. search laws)  -- new-requires
-    (λ c κs. search laws)  -- new-requires-2
     (λ c. search laws)  -- loop-holds
     (λ c κs. search laws)  -- read-requires
     (λ c κs. search laws)  -- count-requires

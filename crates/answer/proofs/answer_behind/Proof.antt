@@ -1,23 +1,19 @@
--- `answer_behind` meets its contract: the answer ends within the buffer. Assumes nothing.
+-- `answer_behind` meets its contract: the answer ends within the buffer, and a character is taken where there is one. Assumes nothing.
 use borrow.Author.Needs.{needs}
-use Rattle.answer.proofs.Behind.{behind-fits, behind-within}
+use Rattle.answer.proofs.Behind.{turn-fits, turn-moves, turn-within}
 use Rattle.answer.proofs.answer_behind.Statement.{statement}
 use Rattle.answer.proofs.answer_behind.Tie as tie
 
-ruleset laws = (needs, behind-fits, behind-within)
+ruleset laws = (needs, turn-fits, turn-moves, turn-within)
 
 pub answer-behind-spec : {M : Type 1} → statement M
 answer-behind-spec =
     tie.close
     (tie.spec
-    (λ c. search laws)  -- sub-answer-found
-    (λ c. search laws)  -- part-answer-found-start
-    (λ c. search laws)  -- part-answer-found-end
-    (λ c κs. search laws)  -- answer-found-requires
-    (λ c. search laws)  -- enum-known-written
-    (λ c. search laws)  -- add-t15
-    (λ c. search laws)  -- enum-told
+    (λ c. search laws)  -- sub-next
+    (λ c. search laws)  -- part-next-start
+    (λ c. search laws)  -- part-next-end
+    (λ c κs. search laws)  -- next-requires
+    (λ c. search laws)  -- add-t11
     (λ c. search laws)  -- same-length
-    (λ c. search laws)  -- returns
-    (λ c. search laws)  -- same-length-2
-    (λ c. search laws))  -- returns-2
+    (λ c. search laws))  -- returns

@@ -11,7 +11,6 @@ finish-spec =
     tie.close
     (tie.spec
     (λ c κs. search laws)  -- end-requires
-    (λ c κs. search laws)  -- answer-last-requires
     (λ c. search laws)  -- enum-known-written
     (λ c κs. search laws)  -- write-out-requires
     (λ c. search laws)  -- enum-told

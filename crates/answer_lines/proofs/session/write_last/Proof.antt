@@ -1,24 +1,20 @@
--- `write_last` meets its contract: the number behind the answer, which is not refused. Assumes nothing.
+-- `write_last` meets its contract: the number behind the answer. Assumes nothing.
 use borrow.Author.Needs.{needs}
-use Rattle.answer_lines.proofs.Closing.{last-refused, last-start, last-room, last-fits, last-written}
+use Rattle.answer_lines.proofs.Closing.{last-start, last-room, last-fits, last-written}
 use Rattle.answer_lines.proofs.session.write_last.Statement.{statement}
 use Rattle.answer_lines.proofs.session.write_last.Tie as tie
 
-ruleset laws = (needs, last-refused, last-start, last-room, last-fits, last-written)
+ruleset laws = (needs, last-start, last-room, last-fits, last-written)
 
 pub write-last-spec : {M : Type 1} → statement M
 write-last-spec =
     tie.close
     (tie.spec
     (λ c κs. search laws)  -- answer-found-requires
-    (λ c. search laws)  -- enum-known-written
     (λ c. search laws)  -- sub-write-closing
     (λ c. search laws)  -- part-write-closing-start
     (λ c. search laws)  -- part-write-closing-end
     (λ c κs. search laws)  -- write-closing-requires
     (λ c. search laws)  -- add-result
-    (λ c. search laws)  -- enum-told
     (λ c. search laws)  -- same-length
-    (λ c. search laws)  -- returns
-    (λ c. search laws)  -- same-length-2
-    (λ c. search laws))  -- returns-2
+    (λ c. search laws))  -- returns

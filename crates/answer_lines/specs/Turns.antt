@@ -1,0 +1,59 @@
+-- The program reads its input in chunks of any length, and works in turns. What it writes turn by turn is what it writes for the whole
+-- input, as a statement. A term of it stands in proofs/.
+use Prim.Native.Nat.{ℕ, zero, suc, _+_, _<_}
+use mathlib.Core.Path.{_≡_}
+use mathlib.Core.Bool.{cond}
+use mathlib.Core.List.{List, [], _∷_, _++_}
+use lib.Dec.{leb}
+use lib.ListN.{length}
+use Rattle.zigbee_types.specs.Outcome.{answer, Wrote}
+use Rattle.aps_binding_table.specs.Table.{emptyTable}
+use Rattle.aps_binding_table.specs.declared.binding.BindingTable.{BindingTable}
+use Rattle.lines.specs.Splitter.{Pending, pending, Taken, split, last}
+use Rattle.lines.specs.Chunks.{foundLine, unread, joined}
+use Rattle.lines.specs.declared.splitter.Found.the-variants.{Nothing}
+use Rattle.our_device.specs.OurDevice.{ours}
+use Rattle.answer_lines.specs.Session.{LINE, LIMIT, TEXT, Said, spoken, session, answers}
+use Rattle.answer_lines.specs.declared.session.Turn.{Turn}
+
+-- ---- one turn
+
+-- what is said for what a splitter took
+unfoldable pub saidFor : BindingTable → Taken → Said
+saidFor t taken = spoken ours t (foundLine (taken .found) (taken .rest .buffer))
+
+-- what is taken of a chunk, with so much room for the answer: nothing, where there is not room for every text
+unfoldable pub takenWithin : ℕ → Pending → List ℕ → Taken
+takenWithin room p chunk = cond (leb TEXT room) (split p chunk) (record { found = Nothing; rest = p; taken = 0 })
+
+-- a turn in which that was taken from a place on: the text is written and its length told; the table and the line that has begun, after
+-- it; and the place behind what was taken
+pub record Turns (taken : Taken) (t : BindingTable) (at : ℕ) (before : List ℕ) (r : Turn) (line after : List ℕ) : Type 0 where
+  pub wrote : Wrote (answer (saidFor t taken .text)) before (answer (r .length)) after
+  pub table : r .session .table ≡ saidFor t taken .table
+  pub kept : r .session .splitter .count ≡ taken .rest .count
+  pub moved : r .at ≡ at + taken .taken
+  pub left : line ≡ taken .rest .buffer
+
+-- the last turn, the end of the input: what is written for the line that has begun, if it has a character, and then at the end
+unfoldable pub ending : Pending → BindingTable → List ℕ
+ending p t = session ours t (foundLine (last p) (p .buffer))
+
+-- ---- all turns
+
+-- what is written in at most so many turns, with a line that has begun and a binding table. (Where no turn is left it ends there.)
+unfoldable pub inTurns : ℕ → Pending → BindingTable → List (List ℕ) → List ℕ
+inTurns zero p t chunks = session ours t []
+inTurns (suc turns) p t [] = ending p t
+inTurns (suc turns) p t (chunk ∷ chunks) =
+    let taken = split p chunk in
+    let said = saidFor t taken in
+    said .text ++ inTurns turns (taken .rest) (said .table) (unread (taken .taken) chunk chunks)
+
+-- whatever the chunks, with a buffer for the longest line: a turn for each character and each chunk, and one more, are enough
+abbrev pub AnswersJoin : Type 0
+AnswersJoin =
+    (buffer : List ℕ) (chunks : List (List ℕ)) (turns : ℕ)
+    → length buffer ≡ LINE
+    → length (joined chunks) + length chunks < turns
+    → inTurns turns (pending 0 buffer) (emptyTable LIMIT) chunks ≡ answers (joined chunks)
