@@ -91,7 +91,7 @@ countText count = BINDINGS ++ decimal count
 unfoldable pub closing : ℕ → List ℕ
 closing count = countText count ++ (LINE-FEED ∷ [])
 
--- what is written for the last lines, from a table on, and then at the end
+-- what is written for lines, from a table on, and then at the end of the input
 unfoldable pub session : Host → BindingTable → List Line → List ℕ
 session h t lines =
     let s = spoken h t lines in

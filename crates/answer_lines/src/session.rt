@@ -1,4 +1,4 @@
-// What the program `answer` writes for a line, and at the end of its input (document 01, "Counter-cases").
+// What the program `answer` writes for a line, at the end of its input, and turn by turn (document 01, "Counter-cases").
 use aps_binding_table::binding::BindingTable;
 use decimal::write_decimal;
 use hex_lines::ParsedLine;
@@ -30,7 +30,7 @@ pub const LINE: usize = 4096;
 // Room for any text, with its line feed: that of a reply that fills its buffer.
 pub const TEXT: usize = 262;
 
-// Room for the last two lines: any text, and the longest number behind its word.
+// Room for the answer to the last line and for the number of entries: any text, and the longest number behind its word.
 const LAST: usize = 292;
 
 // How many entries the binding table may hold.
@@ -230,7 +230,7 @@ fn write_closing(count: usize, out: &mut [u8]) -> usize
     end + 1
 }
 
-// Writes the last two lines.
+// Writes the answer to the last line, if one was found, and then how many entries the binding table holds.
 fn write_last(table: BindingTable, found: Found, line: &[u8; LINE], out: &mut [u8]) -> usize
     requires { ⌜ 292 ≤ length (now out) ⌝ }
     ensures { λ r. ⌜ Wrote (answer (session ours table (foundLine found (now (line .entry))))) (now (out .entry)) (answer r) (now (out .exit)) ⌝ }
