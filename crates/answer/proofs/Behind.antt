@@ -1,10 +1,9 @@
 -- Answers that wait in a buffer: what a turn writes behind them ends within it, and the turn takes a character. Assumes nothing.
 use Prim.Native.Nat.{ℕ, _+_, _-_, _^_, _≤_, _<_}
 use native.Mathlib.Omega.{arith}
-use mathlib.Core.Path.{_≡_, refl, sym}
+use mathlib.Core.Path.{_≡_, refl}
 use mathlib.Core.List.{List}
-use lib.ListN.{length, take, drop}
-use lib.Seq.{length-take-le}
+use lib.ListN.{length, drop}
 use borrow.Author.Tests.{le-leb}
 use borrow.Rule.Slice.PartMut.{midOf, putMid, mid-len, same-len-mid}
 use mir.Syntax.{w64}
@@ -19,10 +18,6 @@ use Rattle.lines.specs.Splitter.{Pending}
 use Rattle.lines.proofs.Taken.{split-takes}
 use Rattle.answer_lines.specs.Turns.{takenWithin, Turns}
 use Rattle.answer_lines.specs.declared.session.Turn.{Turn}
-
--- the front of a buffer has as many characters as are asked for
-pub front-part : (n : ℕ) (buffer : List ℕ) → n ≤ length buffer → n ≡ length (take n buffer)
-front-part n buffer h = sym (length-take-le n buffer h)
 
 -- what a writer told is within the buffer
 pub told-within :

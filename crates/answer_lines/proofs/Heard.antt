@@ -14,7 +14,7 @@ use Rattle.zdo_discovery.specs.Host.{asking}
 use Rattle.zdo_dispatcher.specs.Answers.{Answer, reply, leave, replied, toldOf, bufferAfter, responseSays, answered, Dispatched}
 use Rattle.zdo_dispatcher.specs.declared.dispatcher.Response.{Response}
 use Rattle.zdo_dispatcher.specs.declared.dispatcher.Response.the-variants as response
-use Rattle.hex_lines.specs.RequestLine.{requestLine}
+use Rattle.hex_lines.specs.RequestLine.{hexLine}
 use Rattle.hex_lines.proofs.Line.{length-line}
 use Rattle.decimal.proofs.Digits.{decimal-one}
 use Rattle.our_device.specs.OurDevice.{ours}
@@ -27,7 +27,7 @@ module _ (r : Response) (buffer : List ℕ) {before after : List ℕ} {told : Ou
   pub text-reply :
       {cluster n : ℕ}
       → r ≡ response.Reply cluster n
-      → Wrote (answer (requestLine cluster (take n buffer))) before told after
+      → Wrote (answer (hexLine cluster (take n buffer))) before told after
       → Wrote (answer (responseText r buffer)) before told after
   unfolding responseText
   text-reply is w = rw is w

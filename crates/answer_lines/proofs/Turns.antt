@@ -1,25 +1,37 @@
 -- A turn, and the turns of the program: what it writes turn by turn is what it writes for the whole input. Assumes nothing.
-use Prim.Native.Nat.{ℕ, zero, suc, _≤_, _<_}
+use Prim.Native.Nat.{ℕ, zero, suc, _+_, _≤_, _<_}
 use native.Mathlib.Omega.{arith}
 use mathlib.Core.Path.{_≡_, refl, sym, ap, _∙_}
 use mathlib.Core.List.{List, [], _∷_, _++_, append-assoc}
 use lib.ListN.{length, take, drop}
 use borrow.Author.Tests.{le-leb, lt-leb}
 use Rattle.zigbee_types.specs.Outcome.{Outcome, answer, Wrote}
+use Rattle.aps_binding_table.specs.Table.{emptyTable}
 use Rattle.aps_binding_table.specs.declared.binding.BindingTable.{BindingTable}
 use Rattle.zdo_discovery.specs.Host.{Host}
 use Rattle.lines.specs.Lines.{LINE-FEED, Line}
 use Rattle.lines.specs.Splitter.{Pending, pending, split, last, Splits}
-use Rattle.lines.specs.Chunks.{foundLine, unread, run}
+use Rattle.lines.specs.Chunks.{foundLine, readTo, run}
 use Rattle.lines.specs.declared.splitter.Found.{Found}
 use Rattle.lines.specs.declared.splitter.Split.{Split}
+use Rattle.lines.specs.declared.splitter.Splitter.{Splitter}
 use Rattle.lines.proofs.Chunks.{chunks-join}
 use Rattle.our_device.specs.OurDevice.{ours}
-use Rattle.answer_lines.specs.Session.{Tells, said, spoken, session, answers}
+use Rattle.answer_lines.specs.Session.{LIMIT, TEXT, Tells, said, spoken, session, answers}
 use Rattle.answer_lines.specs.declared.session.Session.{Session}
 use Rattle.answer_lines.proofs.Closing.{copy-written}
 use Rattle.answer_lines.proofs.Found.{nothing-written}
-use Rattle.answer_lines.specs.Turns.{saidFor, takenWithin, Turns, ending, inTurns, AnswersJoin}
+use Rattle.answer_lines.specs.Turns.{newSession, saidFor, takenWithin, Turns, ending, inTurns, AnswersJoin}
+
+-- ---- before the first turn
+
+-- an empty table and a splitter with no line are a session
+pub session-new :
+    {t : BindingTable} {s : Splitter}
+    → t ≡ emptyTable LIMIT
+    → s ≡ record { count = 0 }
+    → record { table = t; splitter = s } ≡ newSession
+session-new empty none i = record { table = empty i; splitter = none i }
 
 -- ---- a turn
 
@@ -69,16 +81,24 @@ in-parts h t (line ∷ lines) more =
     ∙ sym (append-assoc (s .text) _ _)
 
 -- so turn by turn the lines that the splitter tells are answered
-by-turns : (turns : ℕ) (p : Pending) (t : BindingTable) (chunks : List (List ℕ)) → inTurns turns p t chunks ≡ session ours t (run turns p chunks)
-unfolding inTurns run saidFor ending
-by-turns zero p t chunks = refl
-by-turns (suc turns) p t [] = refl
-by-turns (suc turns) p t (chunk ∷ chunks) =
-    let taken = split p chunk in
+by-turns :
+    (turns : ℕ) (room : ℕ → ℕ) (p : Pending) (t : BindingTable) (at : ℕ) (chunks : List (List ℕ))
+    → ((turn : ℕ) → TEXT ≤ room turn)
+    → inTurns turns room p t at chunks ≡ session ours t (run turns p at chunks)
+unfolding inTurns run takenWithin saidFor ending
+by-turns zero room p t at chunks h = refl
+by-turns (suc turns) room p t at [] h = refl
+by-turns (suc turns) room p t at (chunk ∷ chunks) h =
+    let taken = split p (drop at chunk) in
     let found = foundLine (taken .found) (taken .rest .buffer) in
-    let left = unread (taken .taken) chunk chunks in
-    rw (in-parts ours t found (run turns (taken .rest) left), by-turns turns (taken .rest) (spoken ours t found .table) left)
+    let left = readTo (at + taken .taken) chunk chunks in
+    rw (
+      le-leb TEXT (room turns) (h turns),
+      in-parts ours t found (run turns (taken .rest) (left .at) (left .chunks)),
+      by-turns turns room (taken .rest) (spoken ours t found .table) (left .at) (left .chunks) h,
+    )
 
 pub answers-join : AnswersJoin
 unfolding answers
-answers-join buffer chunks turns long h = rw (by-turns turns, chunks-join buffer chunks turns h, long)
+answers-join buffer chunks turns room long enough h =
+    rw (by-turns turns room (pending 0 buffer) _ 0 chunks enough, chunks-join buffer chunks turns h, long)

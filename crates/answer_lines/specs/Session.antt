@@ -13,13 +13,13 @@ use Rattle.zdo_dispatcher.specs.declared.dispatcher.Response.{Response}
 use Rattle.zdo_dispatcher.specs.declared.dispatcher.Response.the-variants as response
 use Rattle.zdo_dispatcher.specs.Answers.{Answer, reply, leave, answered, tableAfter}
 use Rattle.lines.specs.Lines.{LINE-FEED, Line, whole, overlong, linesWithin}
-use Rattle.hex_lines.specs.RequestLine.{Request, requestIn, requestLine}
+use Rattle.hex_lines.specs.RequestLine.{Request, requestIn, hexLine}
 use Rattle.decimal.specs.Decimal.{decimal}
 use Rattle.our_device.specs.OurDevice.{ours}
 
 -- the reply's buffer has so many bytes
-abbrev pub REPLY : ℕ
-REPLY = 128
+abbrev pub ROOM : ℕ
+ROOM = 128
 
 -- a line has at most so many characters
 abbrev pub LINE : ℕ
@@ -43,9 +43,9 @@ LEAVE = 108 ∷ 101 ∷ 97 ∷ 118 ∷ 101 ∷ []
 abbrev pub refusalText : ℕ → List ℕ
 refusalText n = 82 ∷ decimal n
 
--- the text of what a request comes to: a reply's cluster and bytes, or one of these
+-- the text of what a request comes to: a reply's cluster and bytes, `leave`, or a refusal's `R` and number
 unfoldable pub textOf : Outcome Answer → List ℕ
-textOf (answer (reply cluster bytes t)) = requestLine cluster bytes
+textOf (answer (reply cluster bytes t)) = hexLine cluster bytes
 textOf (answer (leave q)) = LEAVE
 textOf (refusal n) = refusalText n
 
@@ -57,7 +57,7 @@ pub record Said : Type 0 where
 -- of a request: what it comes to
 unfoldable pub heard : Host → BindingTable → Request → Said
 heard h t q =
-    let o = answered h t (record { cluster = q .cluster; payload = q .payload; room = REPLY }) in
+    let o = answered h t (record { cluster = q .cluster; payload = q .payload; room = ROOM }) in
     record { text = textOf o; table = tableAfter t o }
 
 -- of a line that is no request: `?`
@@ -83,11 +83,11 @@ spoken h t (line ∷ lines) =
 abbrev pub BINDINGS : List ℕ
 BINDINGS = 98 ∷ 105 ∷ 110 ∷ 100 ∷ 105 ∷ 110 ∷ 103 ∷ 115 ∷ 32 ∷ []
 
--- that, and how many entries a table holds
+-- these, and how many entries a table holds, in decimal
 unfoldable pub countText : ℕ → List ℕ
 countText count = BINDINGS ++ decimal count
 
--- that, and a line feed
+-- the last line of the output, with its line feed
 unfoldable pub closing : ℕ → List ℕ
 closing count = countText count ++ (LINE-FEED ∷ [])
 
@@ -105,7 +105,7 @@ answers input = session ours (emptyTable LIMIT) (linesWithin LINE input)
 
 -- the text of what `dispatch` answers, where a reply's bytes stand at the front of its buffer
 unfoldable pub responseText : Response → List ℕ → List ℕ
-responseText (response.Reply cluster n) buffer = requestLine cluster (take n buffer)
+responseText (response.Reply cluster n) buffer = hexLine cluster (take n buffer)
 responseText (response.Leave q) buffer = LEAVE
 responseText (response.Refused why) buffer = refusalText (refusalNumber why)
 

@@ -1,20 +1,25 @@
 -- The program reads its input in chunks of any length, and works in turns. What it writes turn by turn is what it writes for the whole
 -- input, as a statement. A term of it stands in proofs/.
-use Prim.Native.Nat.{ℕ, zero, suc, _+_, _<_}
+use Prim.Native.Nat.{ℕ, zero, suc, _+_, _≤_, _<_}
 use mathlib.Core.Path.{_≡_}
 use mathlib.Core.Bool.{cond}
 use mathlib.Core.List.{List, [], _∷_, _++_}
 use lib.Dec.{leb}
-use lib.ListN.{length}
+use lib.ListN.{length, drop}
 use Rattle.zigbee_types.specs.Outcome.{answer, Wrote}
 use Rattle.aps_binding_table.specs.Table.{emptyTable}
 use Rattle.aps_binding_table.specs.declared.binding.BindingTable.{BindingTable}
 use Rattle.lines.specs.Splitter.{Pending, pending, Taken, split, last}
-use Rattle.lines.specs.Chunks.{foundLine, unread, joined}
+use Rattle.lines.specs.Chunks.{foundLine, readTo, joined}
 use Rattle.lines.specs.declared.splitter.Found.the-variants.{Nothing}
 use Rattle.our_device.specs.OurDevice.{ours}
 use Rattle.answer_lines.specs.Session.{LINE, LIMIT, TEXT, Said, spoken, session, answers}
+use Rattle.answer_lines.specs.declared.session.Session.{Session}
 use Rattle.answer_lines.specs.declared.session.Turn.{Turn}
+
+-- before the first turn: no binding, and no line that has begun
+abbrev pub newSession : Session
+newSession = record { table = emptyTable LIMIT; splitter = record { count = 0 } }
 
 -- ---- one turn
 
@@ -41,19 +46,23 @@ ending p t = session ours t (foundLine (last p) (p .buffer))
 
 -- ---- all turns
 
--- what is written in at most so many turns, with a line that has begun and a binding table. (Where no turn is left it ends there.)
-unfoldable pub inTurns : ℕ → Pending → BindingTable → List (List ℕ) → List ℕ
-inTurns zero p t chunks = session ours t []
-inTurns (suc turns) p t [] = ending p t
-inTurns (suc turns) p t (chunk ∷ chunks) =
-    let taken = split p chunk in
+-- what is written in at most so many turns, with a line that has begun and a binding table, for chunks, the first from a place on; each
+-- turn has its room, by the number of turns behind it. (Where no turn is left it ends there.)
+unfoldable pub inTurns : ℕ → (ℕ → ℕ) → Pending → BindingTable → ℕ → List (List ℕ) → List ℕ
+inTurns zero room p t at chunks = session ours t []
+inTurns (suc turns) room p t at [] = ending p t
+inTurns (suc turns) room p t at (chunk ∷ chunks) =
+    let taken = takenWithin (room turns) p (drop at chunk) in
     let said = saidFor t taken in
-    said .text ++ inTurns turns (taken .rest) (said .table) (unread (taken .taken) chunk chunks)
+    let left = readTo (at + taken .taken) chunk chunks in
+    said .text ++ inTurns turns room (taken .rest) (said .table) (left .at) (left .chunks)
 
--- whatever the chunks, with a buffer for the longest line: a turn for each character and each chunk, and one more, are enough
+-- whatever the chunks, with a buffer for the longest line and room for every text in each turn: a turn for each character and each
+-- chunk, and one more, are enough
 abbrev pub AnswersJoin : Type 0
 AnswersJoin =
-    (buffer : List ℕ) (chunks : List (List ℕ)) (turns : ℕ)
+    (buffer : List ℕ) (chunks : List (List ℕ)) (turns : ℕ) (room : ℕ → ℕ)
     → length buffer ≡ LINE
+    → ((turn : ℕ) → TEXT ≤ room turn)
     → length (joined chunks) + length chunks < turns
-    → inTurns turns (pending 0 buffer) (emptyTable LIMIT) chunks ≡ answers (joined chunks)
+    → inTurns turns room (pending (newSession .splitter .count) buffer) (newSession .table) 0 chunks ≡ answers (joined chunks)

@@ -20,9 +20,8 @@ ghost use Rattle.lines.specs.Chunks.{foundLine};
 ghost use Rattle.lines.specs.Lines.{whole};
 ghost use Rattle.lines.specs.Splitter.{pending};
 ghost use Rattle.our_device.specs.OurDevice.{ours};
-ghost use Rattle.aps_binding_table.specs.Table.{emptyTable};
-ghost use Rattle.answer_lines.specs.Session.{LINE, LIMIT, heard, said, spoken, countText, closing, session, refusalText, responseText, Inside, Ends, Tells};
-ghost use Rattle.answer_lines.specs.Turns.{takenWithin, Turns, ending};
+ghost use Rattle.answer_lines.specs.Session.{LINE, heard, said, spoken, countText, closing, session, refusalText, responseText, Inside, Ends, Tells};
+ghost use Rattle.answer_lines.specs.Turns.{newSession, takenWithin, Turns, ending};
 
 // The longest line, without its line feed.
 pub const LINE: usize = 4096;
@@ -37,7 +36,7 @@ const LAST: usize = 292;
 const LIMIT: usize = 32;
 
 // How many bytes the reply's buffer has.
-const REPLY: usize = 128;
+const ROOM: usize = 128;
 
 // The longest payload of a line.
 const PAYLOAD: usize = 2045;
@@ -121,7 +120,7 @@ fn write_response(response: Response, reply: &[u8], out: &mut [u8]) -> Written
 fn answer_request(table: BindingTable, cluster: u16, payload: &[u8], out: &mut [u8]) -> Answered
     ensures { λ r. ⌜ Tells (heard ours table (record { cluster = cluster; payload = now (payload .entry) })) 261 (now (out .entry)) (writtenSays (r .written)) (r .table) (now (out .exit)) ⌝ }
 {
-    let mut reply = [0u8; REPLY];
+    let mut reply = [0u8; ROOM];
     let responded = our_response(table, cluster, payload, &mut reply);
     let response = responded.response;
     let table = responded.table;
@@ -246,7 +245,7 @@ fn write_last(table: BindingTable, found: Found, line: &[u8; LINE], out: &mut [u
 impl Session {
     // No binding, and no line that has begun.
     pub fn new() -> Self
-        ensures { λ r. ⌜ (r .table ≡ emptyTable LIMIT) × (r .splitter .count ≡ 0) ⌝ }
+        ensures { λ r. ⌜ r ≡ newSession ⌝ }
     {
         Session {
             table: BindingTable::new(LIMIT),

@@ -67,7 +67,7 @@ length-below (suc k) n h = go (ltb n 10) refl (length-below k (n / 10))
         let fewer = rest (omega (arith, pow-suc 10 (suc k))) in
         rw (length-more n more) (omega arith)
 
--- a number has no more digits than it counts, and 0 has one
+-- a number n has at most n + 1 digits
 pub length-few : (n : ℕ) → length (decimal n) ≤ n + 1
 length-few = by-ten (λ n. length (decimal n) ≤ n + 1) (λ n h. rw (decimal-one n h) (omega arith)) (λ n h p. omega (arith, length-more n h))
 
@@ -104,6 +104,7 @@ first-more : (n : ℕ) → 10 ≤ n → getD (decimal n) 0 0 ≡ getD (decimal (
 first-more n h = rw (decimal-more n h, List·getD-append (decimal (n / 10)) (digit (n % 10) ∷ []) 0 0 (length-some (n / 10)))
 
 pub decimal-short : DecimalShort
-decimal-short n h =
-    by-ten (λ n. 0 < n → 48 < getD (decimal n) 0 0) (λ n l s. rw (decimal-one n l) (omega arith))
-    (λ n l p s. rw (first-more n l) (p (omega arith))) n h
+decimal-short = (
+  decimal-one 0 (omega arith),
+  by-ten (λ n. 0 < n → 48 < getD (decimal n) 0 0) (λ n l s. rw (decimal-one n l) (omega arith)) (λ n l p s. rw (first-more n l) (p (omega arith))),
+)

@@ -14,6 +14,6 @@ unfoldable pub digitsWithin : ℕ → ℕ → List ℕ
 digitsWithin zero n = []
 digitsWithin (suc k) n = cond (ltb n 10) (digit n ∷ []) (digitsWithin k (n / 10) ++ (digit (n % 10) ∷ []))
 
--- the digits of a number: it has no more of them than it counts, and 0 has one
+-- the digits of a number n, of which there are at most n + 1
 unfoldable pub decimal : ℕ → List ℕ
 decimal n = digitsWithin (n + 1) n

@@ -21,6 +21,6 @@ DecimalReadsBack = (n : ℕ) → readOn 0 (decimal n) ≡ n
 abbrev pub DecimalDigits : Type 0
 DecimalDigits = (n : ℕ) → all (λ c. leb 48 c && leb c 57) (decimal n) ≡ true
 
--- and the first is no zero, but for 0 itself
+-- and there is none in front that need not be: 0 has one, `0`, and the first digit of any other number is no zero
 abbrev pub DecimalShort : Type 0
-DecimalShort = (n : ℕ) → 0 < n → 48 < getD (decimal n) 0 0
+DecimalShort = (decimal 0 ≡ 48 ∷ []) × ((n : ℕ) → 0 < n → 48 < getD (decimal n) 0 0)

@@ -3,7 +3,7 @@ use mathlib.Core.Path.{_≡_}
 use mathlib.Core.List.{List, [], _∷_, map}
 use Rattle.demands.specs.Cases.{Case}
 use Rattle.demands.specs.CounterCases.{K1, K2, K3, K4, K5, K6, K7, K8, K9, K10, K11}
-use Rattle.demands.specs.ProgramCases.{Sample, Typed, Long, Ending}
+use Rattle.demands.specs.ProgramCases.{Sample, Typed, Long, Ending, Full}
 use Rattle.demands.specs.DispatchCases.{NwkAddr, IeeeAddr, Elsewhere, Ours, Sequence, HostTables, Linking, Shifting, RefusalOrder, Left, Telling}
 use Rattle.demands.specs.RequestCases.{AddrPayloads, InterestPayloads, MatchPayloads, BindPayloads, RequestedEntries, LeavePayloads}
 use Rattle.demands.specs.ReplyCases.{DescriptorReplies, ListReplies, SimpleReplies, AddressReplies, StatusReplies}
@@ -16,7 +16,7 @@ use Rattle.demands.specs.ReaderCases.{ReadDescriptors, ReadLists, ReadSi
 unfoldable pub cases : List Case
 cases =
     K1 ∷ K2 ∷ K3 ∷ K4 ∷ K5 ∷ K6 ∷ K7 ∷ K8 ∷ K9 ∷ K10 ∷ K11
-    ∷ Sample ∷ Typed ∷ Long ∷ Ending
+    ∷ Sample ∷ Typed ∷ Long ∷ Ending ∷ Full
     ∷ NwkAddr ∷ IeeeAddr ∷ Elsewhere ∷ Ours ∷ Sequence ∷ HostTables ∷ Linking ∷ Shifting ∷ RefusalOrder ∷ Left ∷ Telling
     ∷ AddrPayloads ∷ InterestPayloads ∷ MatchPayloads ∷ BindPayloads ∷ RequestedEntries ∷ LeavePayloads
     ∷ DescriptorReplies ∷ ListReplies ∷ SimpleReplies ∷ AddressReplies ∷ StatusReplies

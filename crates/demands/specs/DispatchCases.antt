@@ -60,41 +60,43 @@ IeeeAddr =
           ∷ [];
     }
 
--- what a device of a type replies to a node request for 0x5678
-abbrev pub elsewhere : LogicalType → Outcome (List ℕ)
+-- what a device of a type replies to requests for 0x5678: node, power, simple, active and match
+abbrev pub elsewhere : LogicalType → List (Outcome (List ℕ))
 elsewhere t =
-    triedOn
-    (hostOf (record { node = nodeOf t; power = ourPower; endpoints = ourDevice .endpoints; «endpoint_count» = 2 }) ourPools)
-    (emptyTable 32)
-    0x0002
-    (0x07 ∷ 0x78 ∷ 0x56 ∷ [])
-    128
+    let h = hostOf (record { node = nodeOf t; power = ourPower; endpoints = ourDevice .endpoints; «endpoint_count» = 2 }) ourPools in
+    triedOn h (emptyTable 32) 0x0002 (0x07 ∷ 0x78 ∷ 0x56 ∷ []) 128
+    ∷ triedOn h (emptyTable 32) 0x0003 (0x07 ∷ 0x78 ∷ 0x56 ∷ []) 128
+    ∷ triedOn h (emptyTable 32) 0x0004 (0x07 ∷ 0x78 ∷ 0x56 ∷ 0x01 ∷ []) 128
+    ∷ triedOn h (emptyTable 32) 0x0005 (0x07 ∷ 0x78 ∷ 0x56 ∷ []) 128
+    ∷ triedOn h (emptyTable 32) 0x0006 (0x07 ∷ 0x78 ∷ 0x56 ∷ 0x04 ∷ 0x01 ∷ 0x00 ∷ 0x00 ∷ []) 128
+    ∷ []
 
--- an end device, by cluster; then a node request to each type, one of them reserved
+-- a coordinator, a router, an end device, and a device of a reserved type that has the number of a router
 unfoldable pub Elsewhere : Case
 Elsewhere =
     record {
-      says =
-          replies 0x0002 (0x07 ∷ 0x78 ∷ 0x56 ∷ [])
-          ∷ replies 0x0003 (0x07 ∷ 0x78 ∷ 0x56 ∷ [])
-          ∷ replies 0x0004 (0x07 ∷ 0x78 ∷ 0x56 ∷ 0x01 ∷ [])
-          ∷ replies 0x0005 (0x07 ∷ 0x78 ∷ 0x56 ∷ [])
-          ∷ replies 0x0006 (0x07 ∷ 0x78 ∷ 0x56 ∷ 0x04 ∷ 0x01 ∷ 0x00 ∷ 0x00 ∷ [])
-          ∷ elsewhere type.Coordinator
-          ∷ elsewhere type.Router
-          ∷ elsewhere type.EndDevice
-          ∷ elsewhere (type.Reserved 1)
-          ∷ [];
+      says = elsewhere type.Coordinator ++ elsewhere type.Router ++ elsewhere type.EndDevice ++ elsewhere (type.Reserved 1);
       expected =
-          answer (0x8002 ∷ 0x07 ∷ 0x80 ∷ 0x78 ∷ 0x56 ∷ [])
+          answer (0x8002 ∷ 0x07 ∷ 0x81 ∷ 0x78 ∷ 0x56 ∷ [])
+          ∷ answer (0x8003 ∷ 0x07 ∷ 0x81 ∷ 0x78 ∷ 0x56 ∷ [])
+          ∷ answer (0x8004 ∷ 0x07 ∷ 0x81 ∷ 0x78 ∷ 0x56 ∷ 0x00 ∷ [])
+          ∷ answer (0x8005 ∷ 0x07 ∷ 0x81 ∷ 0x78 ∷ 0x56 ∷ 0x00 ∷ [])
+          ∷ answer (0x8006 ∷ 0x07 ∷ 0x81 ∷ 0x00 ∷ [])
+          ∷ answer (0x8002 ∷ 0x07 ∷ 0x81 ∷ 0x78 ∷ 0x56 ∷ [])
+          ∷ answer (0x8003 ∷ 0x07 ∷ 0x81 ∷ 0x78 ∷ 0x56 ∷ [])
+          ∷ answer (0x8004 ∷ 0x07 ∷ 0x81 ∷ 0x78 ∷ 0x56 ∷ 0x00 ∷ [])
+          ∷ answer (0x8005 ∷ 0x07 ∷ 0x81 ∷ 0x78 ∷ 0x56 ∷ 0x00 ∷ [])
+          ∷ answer (0x8006 ∷ 0x07 ∷ 0x81 ∷ 0x00 ∷ [])
+          ∷ answer (0x8002 ∷ 0x07 ∷ 0x80 ∷ 0x78 ∷ 0x56 ∷ [])
           ∷ answer (0x8003 ∷ 0x07 ∷ 0x80 ∷ 0x78 ∷ 0x56 ∷ [])
           ∷ answer (0x8004 ∷ 0x07 ∷ 0x80 ∷ 0x78 ∷ 0x56 ∷ 0x00 ∷ [])
           ∷ answer (0x8005 ∷ 0x07 ∷ 0x80 ∷ 0x78 ∷ 0x56 ∷ 0x00 ∷ [])
           ∷ answer (0x8006 ∷ 0x07 ∷ 0x80 ∷ 0x00 ∷ [])
-          ∷ answer (0x8002 ∷ 0x07 ∷ 0x81 ∷ 0x78 ∷ 0x56 ∷ [])
-          ∷ answer (0x8002 ∷ 0x07 ∷ 0x81 ∷ 0x78 ∷ 0x56 ∷ [])
           ∷ answer (0x8002 ∷ 0x07 ∷ 0x80 ∷ 0x78 ∷ 0x56 ∷ [])
-          ∷ answer (0x8002 ∷ 0x07 ∷ 0x80 ∷ 0x78 ∷ 0x56 ∷ [])
+          ∷ answer (0x8003 ∷ 0x07 ∷ 0x80 ∷ 0x78 ∷ 0x56 ∷ [])
+          ∷ answer (0x8004 ∷ 0x07 ∷ 0x80 ∷ 0x78 ∷ 0x56 ∷ 0x00 ∷ [])
+          ∷ answer (0x8005 ∷ 0x07 ∷ 0x80 ∷ 0x78 ∷ 0x56 ∷ 0x00 ∷ [])
+          ∷ answer (0x8006 ∷ 0x07 ∷ 0x80 ∷ 0x00 ∷ [])
           ∷ [];
     }
 
@@ -182,7 +184,7 @@ abbrev pub matchA : List ℕ
 matchA = 0x09 ∷ 0x34 ∷ 0x12 ∷ 0x04 ∷ 0x01 ∷ 0x01 ∷ 0x02 ∷ 0x04 ∷ 0x00 ∷ []
 
 -- A record behind the count answers for nothing: the active list, its simple reply, a match that it has too, and a bind from it. A
--- list of 32 is whole: the reply's cluster and its length, and a buffer one byte short. An unknown cluster with a pool that is too
+-- list of 32 is whole: the reply's first bytes, and how many they are with its cluster; and a buffer one byte short. An unknown cluster with a pool that is too
 -- short, and with one of 513 clusters.
 unfoldable pub HostTables : Case
 HostTables =

@@ -11,20 +11,20 @@ use Rattle.zigbee_types.specs.declared.Refusal.the-variants.{ShortBuffer}
 use Rattle.zigbee_types.specs.declared.Written.the-variants.{Length, Refused}
 use Rattle.zigbee_types.proofs.Outcomes.{wrote-stored, wrote-full}
 use Rattle.hex_lines.specs.Hex.{digitsOf, BytesPut}
-use Rattle.hex_lines.specs.RequestLine.{SPACE, requestLine}
+use Rattle.hex_lines.specs.RequestLine.{SPACE, hexLine}
 use Rattle.hex_lines.proofs.Put.{put-one, put-both, length-digits}
 
 module _ (cluster : ℕ) (bytes : List ℕ) where
   -- five characters, and two for each byte
-  pub length-line : length (requestLine cluster bytes) ≡ 5 + 2 * length bytes
-  unfolding requestLine digitsOf
+  pub length-line : length (hexLine cluster bytes) ≡ 5 + 2 * length bytes
+  unfolding hexLine digitsOf
   length-line = omega (arith, length-digits bytes)
 
   module _ {s : List ℕ} where
     -- refused where there is no room
-    pub line-full : length s < 5 + 2 * length bytes → Wrote (answer (requestLine cluster bytes)) s (writtenSays (Refused ShortBuffer)) s
+    pub line-full : length s < 5 + 2 * length bytes → Wrote (answer (hexLine cluster bytes)) s (writtenSays (Refused ShortBuffer)) s
     unfolding writtenSays
-    line-full h = wrote-full (requestLine cluster bytes) s (rw length-line h)
+    line-full h = wrote-full (hexLine cluster bytes) s (rw length-line h)
 
     -- otherwise the two bytes of the cluster, the space and the bytes are put
     pub line-written :
@@ -34,8 +34,8 @@ module _ (cluster : ℕ) (bytes : List ℕ) where
         → BytesPut (digitsOf bytes) (set u j SPACE) (j + 1) n v
         → 5 ≤ length s
         → length bytes ≤ (length s - 5) / 2
-        → Wrote (answer (requestLine cluster bytes)) s (writtenSays (Length n)) v
-    unfolding writtenSays requestLine digitsOf
+        → Wrote (answer (hexLine cluster bytes)) s (writtenSays (Length n)) v
+    unfolding writtenSays hexLine digitsOf
     line-written {j = j} {u = u} p q r a b =
         let put = put-both p (put-both q (put-both (put-one u j SPACE) r)) in
-        wrote-stored (requestLine cluster bytes) (rw zero-add at (put .moved)) (put .left) (rw length-line (omega arith))
+        wrote-stored (hexLine cluster bytes) (rw zero-add at (put .moved)) (put .left) (rw length-line (omega arith))

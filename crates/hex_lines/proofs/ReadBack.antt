@@ -11,7 +11,7 @@ use Rattle.zigbee_types.specs.Lists.{all}
 use Rattle.zigbee_types.specs.FieldLaws.{areBytes}
 use Rattle.zigbee_types.proofs.Numbers.{first-byte}
 use Rattle.hex_lines.specs.Hex.{between, digitValue, isDigit, bytesIn, capital, digitsOf}
-use Rattle.hex_lines.specs.RequestLine.{isRequest, clusterIn, requestIn, requestLine}
+use Rattle.hex_lines.specs.RequestLine.{isRequest, clusterIn, requestIn, hexLine}
 use Rattle.hex_lines.specs.ReadBack.{DigitsReadBack, LineReadsBack}
 use Rattle.hex_lines.proofs.Line.{length-line}
 
@@ -67,8 +67,8 @@ digits-are (b ∷ bytes) h =
 
 module _ (cluster : ℕ) (bytes : List ℕ) (fits : cluster < 2 ^ 16) where
   -- its cluster reads back
-  cluster-back : clusterIn (requestLine cluster bytes) ≡ cluster
-  unfolding clusterIn requestLine digitsOf
+  cluster-back : clusterIn (hexLine cluster bytes) ≡ cluster
+  unfolding clusterIn hexLine digitsOf
   cluster-back =
       rw (
         capital-back (cluster / 256 / 16) (omega arith),
@@ -78,15 +78,15 @@ module _ (cluster : ℕ) (bytes : List ℕ) (fits : cluster < 2 ^ 16) where
       ) (omega arith)
 
   -- and it passes the tests of a request
-  line-is : areBytes bytes ≡ true → 0 < length bytes → isRequest (requestLine cluster bytes) ≡ true
-  unfolding isRequest requestLine digitsOf all
+  line-is : areBytes bytes ≡ true → 0 < length bytes → isRequest (hexLine cluster bytes) ≡ true
+  unfolding isRequest hexLine digitsOf all
   line-is are some =
-      let long : 7 ≤ length (requestLine cluster bytes) = rw length-line (omega arith) in
-      let odd : length (requestLine cluster bytes) % 2 ≡ 1 = rw length-line (omega arith) in
+      let long : 7 ≤ length (hexLine cluster bytes) = rw length-line (omega arith) in
+      let odd : length (hexLine cluster bytes) % 2 ≡ 1 = rw length-line (omega arith) in
       let two : areBytes (cluster / 256 ∷ cluster % 256 ∷ []) ≡ true =
       rw (lt-ltb (cluster / 256) 256 (omega arith), lt-ltb (cluster % 256) 256 (omega arith)) in
       rw (le-leb 7 _ long, eq-eqb _ 1 odd, digits-are (cluster / 256 ∷ cluster % 256 ∷ []) two, digits-are bytes are)
 
 pub line-back : LineReadsBack
-unfolding requestIn requestLine digitsOf
+unfolding requestIn hexLine digitsOf
 line-back cluster bytes fits are some = rw (line-is cluster bytes fits are some, cluster-back cluster bytes fits, digits-back bytes are)

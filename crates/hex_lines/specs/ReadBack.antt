@@ -7,7 +7,7 @@ use mathlib.Core.Option.{some}
 use lib.ListN.{length}
 use Rattle.zigbee_types.specs.FieldLaws.{areBytes}
 use Rattle.hex_lines.specs.Hex.{bytesIn, digitsOf}
-use Rattle.hex_lines.specs.RequestLine.{requestIn, requestLine}
+use Rattle.hex_lines.specs.RequestLine.{requestIn, hexLine}
 
 -- bytes that are written as digits read back
 abbrev pub DigitsReadBack : Type 0
@@ -20,4 +20,4 @@ LineReadsBack =
     → cluster < 2 ^ 16
     → areBytes bytes ≡ true
     → 0 < length bytes
-    → requestIn (requestLine cluster bytes) ≡ some (record { cluster = cluster; payload = bytes })
+    → requestIn (hexLine cluster bytes) ≡ some (record { cluster = cluster; payload = bytes })

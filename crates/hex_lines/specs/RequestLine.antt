@@ -67,6 +67,6 @@ pub record LineRead (o : Option Request) (before : List ℕ) (told : Outcome (Op
 
 -- ---- writing
 
--- a cluster and bytes, as a line has them, in capitals
-unfoldable pub requestLine : ℕ → List ℕ → List ℕ
-requestLine cluster bytes = digitsOf (cluster / 256 ∷ cluster % 256 ∷ []) ++ SPACE ∷ digitsOf bytes
+-- a cluster and bytes, a request's or a reply's, as a line in capitals
+unfoldable pub hexLine : ℕ → List ℕ → List ℕ
+hexLine cluster bytes = digitsOf (cluster / 256 ∷ cluster % 256 ∷ []) ++ SPACE ∷ digitsOf bytes

@@ -10,7 +10,7 @@ ghost use Rattle.zigbee_types.specs.Lists.{all};
 ghost use Rattle.zigbee_types.specs.Outcome.{answer, Wrote};
 ghost use Rattle.zigbee_types.specs.Answers.{writtenSays};
 ghost use Rattle.hex_lines.specs.Hex.{between, digitValue, isDigit, bytesIn, capital, digitsOf, BytesPut};
-ghost use Rattle.hex_lines.specs.RequestLine.{isRequest, clusterIn, requestIn, LineRead, requestLine};
+ghost use Rattle.hex_lines.specs.RequestLine.{isRequest, clusterIn, requestIn, LineRead, hexLine};
 ghost use Rattle.hex_lines.specs.Answers.{lineSays};
 
 // What a line is: a request, with its cluster and the length of its payload; none; or why it was refused.
@@ -166,7 +166,7 @@ fn put_digits(out: &mut [u8], at: usize, bytes: &[u8]) -> usize
 
 // Writes a cluster and bytes as a line at the front of a buffer, in capitals. Too short a buffer is refused, and nothing is written.
 pub fn write_line(cluster: u16, bytes: &[u8], out: &mut [u8]) -> Written
-    ensures { λ r. ⌜ Wrote (answer (requestLine cluster (now (bytes .entry)))) (now (out .entry)) (writtenSays r) (now (out .exit)) ⌝ }
+    ensures { λ r. ⌜ Wrote (answer (hexLine cluster (now (bytes .entry)))) (now (out .entry)) (writtenSays r) (now (out .exit)) ⌝ }
 {
     if out.len() < FRONT {
         return Written::Refused(Refusal::ShortBuffer);

@@ -7,12 +7,12 @@ use mathlib.Core.Bool.{Bool, true, false, cond}
 use mathlib.Core.List.{List, [], _∷_, _++_, map, append-nil, append-assoc}
 use lib.Dec.{eqb, leb}
 use lib.ListN.{length, take, drop, set, length-append, length-drop, length-set, drop-of-length-le}
-use lib.Seq.{take-suc-set}
+use lib.Seq.{take-suc-set, drop-drop}
 use borrow.Author.Tests.{eqb-true, eqb-false, leb-true, leb-false, le-leb, lt-leb, ne-eqb}
 use Rattle.lines.specs.Lines.{LINE-FEED, begins, linesOf, lineWithin, linesWithin}
 use Rattle.lines.specs.Lines as lines
 use Rattle.lines.specs.Splitter.{Pending, pending, grown, ended, Taken, later, split, last}
-use Rattle.lines.specs.Chunks.{foundLine, unread, run, joined, ChunksJoin}
+use Rattle.lines.specs.Chunks.{foundLine, readTo, run, joined, ChunksJoin}
 
 -- ---- characters that end no line
 
@@ -145,39 +145,53 @@ tells limit cs (c ∷ chunk) {p} l = go (eqb c LINE-FEED) refl (λ other. tells 
 
 -- ---- any chunks
 
+-- the stream that chunks make, the first read from a place on
+abbrev fed : ℕ → List (List ℕ) → List ℕ
+fed at [] = []
+fed at (chunk ∷ chunks) = drop at chunk ++ joined chunks
+
+-- from the start it is all of it
+fed-all : (chunks : List (List ℕ)) → fed 0 chunks ≡ joined chunks
+unfolding joined
+fed-all [] = refl
+fed-all (chunk ∷ chunks) = refl
+
 runs :
-    (turns limit : ℕ) (cs : List ℕ) {p : Pending} (chunks : List (List ℕ))
+    (turns limit : ℕ) (cs : List ℕ) {p : Pending} (at : ℕ) (chunks : List (List ℕ))
     → Holds limit cs p
-    → length (joined chunks) + length chunks < turns
-    → run turns p chunks ≡ map (lineWithin limit) (linesOf (cs ++ joined chunks))
-unfolding run joined unread
-runs zero limit cs chunks l h = absurd (omega (arith, h))
-runs (suc turns) limit cs [] l h = rw append-nil (stream-ends cs l)
-runs (suc turns) limit cs {p} (chunk ∷ chunks) l h =
-    let s = split p chunk in
-    let t = tells limit cs chunk l in
-    rw (t .lines (joined chunks)) (go s t (λ begun q left. runs turns limit begun {p = q} left) (leb (length chunk) (s .taken)) refl)
+    → length (fed at chunks) + length chunks < turns
+    → run turns p at chunks ≡ map (lineWithin limit) (linesOf (cs ++ fed at chunks))
+unfolding run readTo
+runs zero limit cs at chunks l h = absurd (omega (arith, h))
+runs (suc turns) limit cs at [] l h = rw append-nil (stream-ends cs l)
+runs (suc turns) limit cs {p} at (chunk ∷ chunks) l h =
+    let s = split p (drop at chunk) in
+    let t = tells limit cs (drop at chunk) l in
+    rw (t .lines (joined chunks)) (go s t (λ begun q place left. runs turns limit begun {p = q} place left) (leb (length chunk) (at + s .taken)) refl)
   where
     go :
-        (s : Taken) (t : Told limit cs chunk s)
-        → ((begun : List ℕ) (q : Pending) (left : List (List ℕ))
+        (s : Taken) (t : Told limit cs (drop at chunk) s)
+        → ((begun : List ℕ) (q : Pending) (place : ℕ) (left : List (List ℕ))
         → Holds limit begun q
-        → length (joined left) + length left < turns
-        → run turns q left ≡ map (lineWithin limit) (linesOf (begun ++ joined left)))
+        → length (fed place left) + length left < turns
+        → run turns q place left ≡ map (lineWithin limit) (linesOf (begun ++ fed place left)))
         → (done : Bool)
-        → leb (length chunk) (s .taken) ≡ done
-        → foundLine (s .found) (s .rest .buffer) ++ run turns (s .rest) (cond (leb (length chunk) (s .taken)) chunks (drop (s .taken) chunk ∷ chunks))
-        ≡ foundLine (s .found) (s .rest .buffer) ++ map (lineWithin limit) (linesOf (t .begun ++ (drop (s .taken) chunk ++ joined chunks)))
+        → leb (length chunk) (at + s .taken) ≡ done
+        → foundLine (s .found) (s .rest .buffer) ++ run turns (s .rest) (readTo (at + s .taken) chunk chunks .at) (readTo (at + s .taken) chunk chunks .chunks)
+        ≡ foundLine (s .found) (s .rest .buffer) ++ map (lineWithin limit) (linesOf (t .begun ++ (drop (s .taken) (drop at chunk) ++ joined chunks)))
     go s t again true e =
-        let all : drop (s .taken) chunk ≡ [] = drop-of-length-le chunk (leb-true (length chunk) (s .taken) e) in
-        rw (e, all, again (t .begun) (s .rest) chunks (t .holds) (omega (arith, rw length-append at h)))
+        let all : drop (at + s .taken) chunk ≡ [] = drop-of-length-le chunk (leb-true (length chunk) (at + s .taken) e) in
+        let fewer : length (fed 0 chunks) + length chunks < turns = rw fed-all (omega (arith, rw length-append at h)) in
+        rw (e, drop-drop, all, again (t .begun) (s .rest) 0 chunks (t .holds) fewer, fed-all)
     go s t again false e =
-        let some = leb-false (length chunk) (s .taken) e in
-        let moved : 0 < s .taken = t .moves (omega arith) in
-        let fewer : length (drop (s .taken) chunk ++ joined chunks) + suc (length chunks) < turns =
-        rw (length-append, length-drop) (omega (arith, rw length-append at h)) in
-        rw (e, again (t .begun) (s .rest) (drop (s .taken) chunk ∷ chunks) (t .holds) fewer)
+        let some = leb-false (length chunk) (at + s .taken) e in
+        let moved : 0 < s .taken = t .moves (rw length-drop (omega arith)) in
+        let fewer : length (drop (at + s .taken) chunk ++ joined chunks) + suc (length chunks) < turns =
+        rw (length-append, length-drop) (omega (arith, rw (length-append, length-drop) at h)) in
+        rw (e, drop-drop, again (t .begun) (s .rest) (at + s .taken) (chunk ∷ chunks) (t .holds) fewer)
 
 pub chunks-join : ChunksJoin
 unfolding linesWithin
-chunks-join buffer chunks turns h = runs turns (length buffer) [] chunks (holds-none buffer refl) h
+chunks-join buffer chunks turns h =
+    let all : length (fed 0 chunks) + length chunks < turns = rw fed-all h in
+    rw (runs turns (length buffer) [] 0 chunks (holds-none buffer refl) all, fed-all)

@@ -17,18 +17,24 @@ foundLine (Line n) buffer = lines.whole (take n buffer) ∷ []
 foundLine Overlong buffer = lines.overlong ∷ []
 foundLine Nothing buffer = []
 
--- the chunks that are left once so many characters of the first were taken
-unfoldable pub unread : ℕ → List ℕ → List (List ℕ) → List (List ℕ)
-unread taken chunk chunks = cond (leb (length chunk) taken) chunks (drop taken chunk ∷ chunks)
+-- what is left of an input: chunks, and the place in the first of them up to which it was read
+pub record Unread : Type 0 where
+  pub at : ℕ
+  pub chunks : List (List ℕ)
 
--- the lines that a splitter tells which is fed chunks one after the other, in at most so many turns: one turn for what it takes from a
--- chunk at once, and one for the end of the input
-unfoldable pub run : ℕ → Pending → List (List ℕ) → List lines.Line
-run zero p chunks = []
-run (suc turns) p [] = foundLine (last p) (p .buffer)
-run (suc turns) p (chunk ∷ chunks) =
-    let s = split p chunk in
-    foundLine (s .found) (s .rest .buffer) ++ run turns (s .rest) (unread (s .taken) chunk chunks)
+-- what is left of a chunk that was read up to a place, and of those behind it: where it was read to its end, those
+unfoldable pub readTo : ℕ → List ℕ → List (List ℕ) → Unread
+readTo at chunk chunks = cond (leb (length chunk) at) (record { at = 0; chunks = chunks }) (record { at = at; chunks = chunk ∷ chunks })
+
+-- the lines told by a splitter that is fed chunks one after the other, the first from a place on, in at most so many turns: one turn
+-- for what it takes from a chunk at once, and one for the end of the input
+unfoldable pub run : ℕ → Pending → ℕ → List (List ℕ) → List lines.Line
+run zero p at chunks = []
+run (suc turns) p at [] = foundLine (last p) (p .buffer)
+run (suc turns) p at (chunk ∷ chunks) =
+    let s = split p (drop at chunk) in
+    let left = readTo (at + s .taken) chunk chunks in
+    foundLine (s .found) (s .rest .buffer) ++ run turns (s .rest) (left .at) (left .chunks)
 
 -- the stream that chunks make
 unfoldable pub joined : List (List ℕ) → List ℕ
@@ -41,4 +47,4 @@ abbrev pub ChunksJoin : Type 0
 ChunksJoin =
     (buffer : List ℕ) (chunks : List (List ℕ)) (turns : ℕ)
     → length (joined chunks) + length chunks < turns
-    → run turns (pending 0 buffer) chunks ≡ lines.linesWithin (length buffer) (joined chunks)
+    → run turns (pending 0 buffer) 0 chunks ≡ lines.linesWithin (length buffer) (joined chunks)

@@ -4,7 +4,7 @@ ghost use mathlib.Core.Path.{_≡_};
 ghost use lib.ListN.{drop};
 ghost use Rattle.lines.specs.Splitter.{pending, grown, ended, split, last, Splits};
 
-// How many characters the line has that has begun; more than the buffer has room for stand for too many.
+// How many characters the line has that has begun. A number above the buffer's length says that they are too many.
 pub struct Splitter {
     pub count: usize,
 }
@@ -50,7 +50,7 @@ fn ended(count: usize, line: &[u8]) -> Found
 impl Splitter {
     // No line has begun.
     pub fn new() -> Self
-        ensures { λ r. ⌜ r .count ≡ 0 ⌝ }
+        ensures { λ r. ⌜ r ≡ record { count = 0 } ⌝ }
     {
         Self { count: 0 }
     }

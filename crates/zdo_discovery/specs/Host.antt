@@ -30,7 +30,7 @@ pub record Asked : Type 0 where
 unfoldable pub asking : ℕ → List ℕ → List ℕ → Asked
 asking cluster payload buffer = record { cluster = cluster; payload = payload; room = length buffer }
 
--- refusal 1 is given for others: the device's tables are good
+-- are the device's tables good? If not, refusal 1 is given
 unfoldable pub goodHost : Host → Bool
 goodHost h = goodDevice (h .pools) (h .device)
 

@@ -222,7 +222,7 @@ fn on_simple<'a>(
     }
 }
 
-// Replies to an Active_EP_req (2.4.3.1.6), of a device whose records were counted.
+// Replies to an Active_EP_req (2.4.3.1.6), of a device whose count of records was checked.
 fn on_active(
     device: DeviceDescriptorConfig,
     nwk_addr: ShortAddress,

@@ -55,7 +55,7 @@ pub struct Responded {
     pub response: Response,
 }
 
-// A reply's cluster is the request's and this (2.4.4).
+// A reply's cluster is the request's plus this (2.4.4).
 const REPLY: u16 = 0x8000;
 
 // What is told of a reply to a request that came to `written`.

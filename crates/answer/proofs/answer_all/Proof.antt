@@ -3,7 +3,7 @@
 use borrow.Author.Needs.{needs}
 use mathlib.Core.Path.{_≡_}
 use lib.ListN.{length}
-use Rattle.answer.proofs.Behind.{front-part}
+use Rattle.answer_lines.proofs.Ends.{front-part}
 use Rattle.answer.proofs.answer_all.Statement.{statement}
 use Rattle.answer.proofs.answer_all.Tie as tie
 

@@ -1,6 +1,6 @@
 -- `write_out` is safe: the part that it writes lies within the buffer. Assumes nothing.
 use borrow.Author.Needs.{needs}
-use Rattle.answer.proofs.Behind.{front-part}
+use Rattle.answer_lines.proofs.Ends.{front-part}
 use Rattle.answer.proofs.write_out.Statement.{statement}
 use Rattle.answer.proofs.write_out.Tie as tie
 
