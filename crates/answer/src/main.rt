@@ -19,7 +19,7 @@ fn write_out(out: &[u8], end: usize)
     io::write_all(STDOUT_FILENO, &out[..end]);
 }
 
-// Writes out what waits where there is no room for every text behind it, and tells how much waits then.
+// Writes out what waits where there is no room for any text behind it, and tells how much waits then.
 fn make_room(out: &[u8], end: usize) -> usize
     requires { ⌜ (end ≤ length (now out)) × (262 ≤ length (now out)) ⌝ }
     ensures { λ r. ⌜ r + 262 ≤ length (now (out .entry)) ⌝ }
@@ -84,8 +84,8 @@ fn answer_all(input: &mut [u8], line: &mut [u8; LINE], out: &mut [u8])
     requires { ⌜ 262 ≤ length (now out) ⌝ }
 {
     let mut session = Session::new();
-    let mut turns = u64::MAX;
-    while turns > 0 {
+    let mut reads = u64::MAX;
+    while reads > 0 {
         let got = libc::read(STDIN_FILENO, input);
         let read = io::count(got, input);
         if read == 0 {
@@ -93,10 +93,11 @@ fn answer_all(input: &mut [u8], line: &mut [u8; LINE], out: &mut [u8])
             return;
         }
         session = answer_chunk(session, &input[..read], line, out);
-        turns -= 1;
+        reads -= 1;
     }
 }
 
+// The input, the answers that wait and the line that has begun have a buffer each.
 fn main() {
     let mut input = io::large_buffer();
     let mut out = io::large_buffer();

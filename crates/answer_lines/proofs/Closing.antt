@@ -67,10 +67,6 @@ module _ (count : ℕ) (small : count < 2 ^ 64) where
   unfolding countText
   count-few = rw length-append (omega (arith, digits-few count small))
 
-  closing-few : length (closing count) ≤ 30
-  unfolding closing
-  closing-few = rw length-append (omega (arith, count-few))
-
   module _ {out middle : List ℕ} {end : ℕ} (room : 30 ≤ length out) (w : Wrote (answer (countText count)) out (answer end) middle) where
     -- there is a place for it
     pub closing-place : end < length middle
@@ -103,19 +99,23 @@ module _ (t : BindingTable) (lines : List Line) {out middle : List ℕ} {u : Bin
   pub last-room : 30 ≤ length (midOf n (length middle - n) middle)
   last-room = omega (arith, few, part, same)
 
-  module _ {k : ℕ} {v : List ℕ} (p : Wrote (answer (closing (u .count))) (midOf n (length middle - n) middle) (answer k) v) where
+  -- whatever is written behind the answer, both lie within the buffer
+  module _ {o : Outcome (List ℕ)} {k : ℕ} {v : List ℕ} (p : Wrote o (midOf n (length middle - n) middle) (answer k) v) where
     both-room : n + k ≤ length out
-    both-room = omega (arith, part, wrote-within _ p .most k refl, few, same)
+    both-room = omega (arith, part, wrote-within o p .most k refl, few, same)
 
     pub last-fits : length out < 2 ^ 64 → Fits w64 (n + k)
     last-fits short = record { fits = omega (arith, both-room) }
 
-    pub last-written : Wrote (answer (session ours t lines)) out (answer (n + k)) (putMid n (length middle - n) middle v)
-    unfolding session
-    last-written =
-        let behind = rw (h .table) at p in
-        both-written (spoken ours t lines .text) (closing (spoken ours t lines .table .count)) (h .wrote)
-        (omega (arith, both-room, wrote-bytes (h .wrote) .long, wrote-bytes behind .long)) behind refl
+  pub last-written :
+      {k : ℕ} {v : List ℕ}
+      → Wrote (answer (closing (u .count))) (midOf n (length middle - n) middle) (answer k) v
+      → Wrote (answer (session ours t lines)) out (answer (n + k)) (putMid n (length middle - n) middle v)
+  unfolding session
+  last-written p =
+      let behind = rw (h .table) at p in
+      both-written (spoken ours t lines .text) (closing (spoken ours t lines .table .count)) (h .wrote)
+      (omega (arith, both-room p, wrote-bytes (h .wrote) .long, wrote-bytes behind .long)) behind refl
 
 -- ---- from one buffer to another
 

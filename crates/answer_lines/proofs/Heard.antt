@@ -1,4 +1,4 @@
--- A line that is heard: what `dispatch` answered as text, and the request that was read. Assumes nothing.
+-- A request that is heard: what `dispatch` answered, as text. Assumes nothing.
 use Prim.Native.Nat.{ℕ, _≤_}
 use native.Mathlib.Omega.{arith}
 use mathlib.Core.Path.{_≡_, refl, sym}

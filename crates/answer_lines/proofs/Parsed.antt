@@ -79,13 +79,13 @@ never-full :
     (line : List ℕ) (o : Option Request) {before after : List ℕ} (why : Refusal)
     → requestIn line ≡ o
     → length line ≤ 4096
-    → length before ≡ 2045
+    → 2045 ≤ length before
     → LineRead o before (lineSays (parsed.Refused why)) after
     → ⊥
 unfolding lineSays withRoom mapped heardOf
 never-full line none why e h room l = let said = l .said in let z : _≡_ {A = ℕ} 0 1 = cc in omega arith
 never-full line (some q) {before} why e h room l =
-    let fits : length (q .payload) ≤ length before = rw room (payload-few line e h) in
+    let fits : length (q .payload) ≤ length before = omega (arith, payload-few line e h) in
     let said = rw (le-leb _ _ fits) at (l .said) in
     let z : _≡_ {A = ℕ} 0 1 = cc in
     omega arith
@@ -124,7 +124,7 @@ module _ (line : List ℕ) {before buffer : List ℕ} {r : ParsedLine} (l : Line
   -- that there is no room does not happen
   pub line-refused :
       {t : BindingTable} {out later : List ℕ} {told : Outcome ℕ} {why : Refusal}
-      → length before ≡ 2045
+      → 2045 ≤ length before
       → length line ≤ 4096
       → r ≡ parsed.Refused why
       → Tells (said ours t (whole line)) 261 out told t later

@@ -29,14 +29,13 @@ text-full text before h = wrote-full text before h
 
 -- the first i characters of a text were copied to the front of a buffer with room for it
 pub record Copied (text : List ℕ) (i : ℕ) (before after : List ℕ) : Type 0 where
-  pub within : i ≤ length text
   pub room : length text ≤ length before
   pub same : length after ≡ length before
   pub put : BytesPut (take i text) before 0 i after
 
 -- none, to begin with
 pub copied-first : {text before : List ℕ} → length text ≤ length before → Copied text 0 before before
-copied-first h = record { within = omega arith; room = h; same = refl; put = put-none }
+copied-first h = record { room = h; same = refl; put = put-none }
 
 module _ {text before after : List ℕ} {i : ℕ} (c : Copied text i before after) where
   -- there is room for the next
@@ -47,7 +46,6 @@ module _ {text before after : List ℕ} {i : ℕ} (c : Copied text i before afte
   pub copied-next : i < length text → Copied text (i + 1) before (set after i (getD text i 0))
   copied-next h =
       record {
-        within = omega arith;
         room = c .room;
         same = rw length-set (c .same);
         put = rw (add-one i, take-suc text i 0 h, ← add-one i) (put-both (c .put) (put-one after i (getD text i 0)));

@@ -98,7 +98,7 @@ fn write_refusal(why: Refusal, out: &mut [u8]) -> Written
         return Written::Refused(Refusal::ShortBuffer);
     }
     out[0] = b'R';
-    out[1] = 48 + why.number();
+    out[1] = b'0' + why.number();
     Written::Length(2)
 }
 
@@ -130,7 +130,7 @@ fn answer_request(table: BindingTable, cluster: u16, payload: &[u8], out: &mut [
     }
 }
 
-// Answers a line that is not too long.
+// Answers a line that is not too long. (Its payload always has room.)
 fn answer_line(table: BindingTable, line: &[u8], out: &mut [u8]) -> Answered
     requires { ⌜ length (now line) ≤ 4096 ⌝ }
     ensures { λ r. ⌜ Tells (said ours table (whole (now (line .entry)))) 261 (now (out .entry)) (writtenSays (r .written)) (r .table) (now (out .exit)) ⌝ }
@@ -154,7 +154,7 @@ fn answer_line(table: BindingTable, line: &[u8], out: &mut [u8]) -> Answered
 
 // ---- with the line feed
 
-// Puts a line feed behind a text that was written, and tells the place behind it.
+// Puts a line feed behind a text that was written, and tells the place behind it. (The text had room.)
 fn end_line(written: Written, out: &mut [u8]) -> usize
     requires { ⌜ Inside (writtenSays written) (now out) ⌝ }
     ensures { λ r. ⌜ Ends (writtenSays written) (now (out .entry)) (answer r) (now (out .exit)) ⌝ }
@@ -206,7 +206,7 @@ fn answer_found(table: BindingTable, found: Found, line: &[u8; LINE], out: &mut 
 
 // ---- the end of the input
 
-// Writes how many entries the binding table holds, without the line feed.
+// Writes how many entries the binding table holds, without the line feed. (The digits have room, behind nine characters.)
 fn write_count(count: usize, out: &mut [u8]) -> usize
     requires { ⌜ 30 ≤ length (now out) ⌝ }
     ensures { λ r. ⌜ Wrote (answer (countText count)) (now (out .entry)) (answer r) (now (out .exit)) ⌝ }

@@ -85,7 +85,7 @@ read-last n (d ∷ cs) c = read-last (10 * n + (d - 48)) cs c
 
 pub decimal-back : DecimalReadsBack
 unfolding readOn
-decimal-back = by-ten (λ n. readOn 0 (decimal n) ≡ n) (λ n h. rw (decimal-one n h) (omega arith)) (λ n h p. rw (decimal-more n h, read-last, p) (omega arith))
+decimal-back = by-ten _ (λ n h. rw (decimal-one n h) (omega arith)) (λ n h p. rw (decimal-more n h, read-last, p) (omega arith))
 
 -- ---- that they are digits, the first of which is no zero
 
@@ -96,7 +96,7 @@ digit-is d h = rw (le-leb 48 (48 + d) (omega arith), le-leb (48 + d) 57 (omega a
 pub decimal-digits : DecimalDigits
 unfolding all
 decimal-digits =
-    by-ten (λ n. all (λ c. leb 48 c && leb c 57) (decimal n) ≡ true) (λ n h. rw (decimal-one n h, digit-is n h))
+    by-ten _ (λ n h. rw (decimal-one n h, digit-is n h))
     (λ n h p. rw (decimal-more n h, all-last, p) (digit-is (n % 10) (omega arith)))
 
 -- the first digit of a number is its quotient's
@@ -106,5 +106,5 @@ first-more n h = rw (decimal-more n h, List·getD-append (decimal (n / 10)) (dig
 pub decimal-short : DecimalShort
 decimal-short = (
   decimal-one 0 (omega arith),
-  by-ten (λ n. 0 < n → 48 < getD (decimal n) 0 0) (λ n l s. rw (decimal-one n l) (omega arith)) (λ n l p s. rw (first-more n l) (p (omega arith))),
+  by-ten _ (λ n l s. rw (decimal-one n l) (omega arith)) (λ n l p s. rw (first-more n l) (p (omega arith))),
 )

@@ -26,11 +26,11 @@ fn put_decimal(out: &mut [u8], n: u64) -> usize
     ensures { λ r. ⌜ (r ≡ length (decimal n)) × (now (out .exit) ≡ sets (now (out .entry)) 0 (decimal n)) ⌝ }
 {
     if n < 10 {
-        out[0] = 48 + (n as u8);
+        out[0] = b'0' + (n as u8);
         return 1;
     }
     let at = put_decimal(out, n / 10);
-    out[at] = 48 + ((n % 10) as u8);
+    out[at] = b'0' + ((n % 10) as u8);
     at + 1
 }
 

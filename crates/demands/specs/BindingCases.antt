@@ -16,7 +16,8 @@ use Rattle.aps_binding_table.specs.declared.binding.BindingTable.{BindingTable}
 use Rattle.aps_binding_table.specs.declared.binding.LinkStatus.the-variants as link
 use Rattle.demands.specs.Calls.{Call, bind, unbind, next, after}
 use Rattle.demands.specs.History.{adds, removes, howMany}
-use Rattle.demands.specs.Cases.{Case, counting, joined}
+use Rattle.lines.specs.Chunks.{joined}
+use Rattle.demands.specs.Cases.{Case, counting}
 
 -- ---- entries
 

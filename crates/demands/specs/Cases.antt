@@ -51,11 +51,6 @@ statusOf (answer (reply cluster bytes t)) = answer (drop 1 bytes)
 statusOf (answer (leave q)) = answer []
 statusOf (refusal n) = refusal n
 
--- lists, one after the other
-abbrev pub joined : List (List ℕ) → List ℕ
-joined [] = []
-joined (x ∷ xs) = x ++ joined xs
-
 -- ---- asking the dispatcher
 
 -- what a host replies to a request, with a binding table and a room

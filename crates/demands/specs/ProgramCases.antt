@@ -5,8 +5,9 @@ use Prim.Native.String.{String, [] as empty, _∷_ as _then_}
 use mathlib.Core.List.{List, [], _∷_, _++_, map}
 use lib.ListN.{replicate}
 use Rattle.zigbee_types.specs.Outcome.{answer}
+use Rattle.lines.specs.Chunks.{joined}
 use Rattle.answer_lines.specs.Session.{answers}
-use Rattle.demands.specs.Cases.{Case, joined}
+use Rattle.demands.specs.Cases.{Case}
 
 -- the characters of a text
 abbrev pub typed : String → List ℕ

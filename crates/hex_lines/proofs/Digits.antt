@@ -45,12 +45,11 @@ module _ (c : ℕ) {p : Bool} (a : p ≡ between 48 57 c) where
 
 -- the first i characters are digits
 pub record Scanned (cs : List ℕ) (i : ℕ) : Type 0 where
-  pub within : i ≤ length cs
   pub left : all isDigit cs ≡ all isDigit (drop i cs)
 
 -- none of them, to begin with
 pub scanned-first : {cs : List ℕ} → Scanned cs 0
-scanned-first = record { within = omega arith; left = refl }
+scanned-first = record { left = refl }
 
 module _ {cs : List ℕ} {i : ℕ} (s : Scanned cs i) where
   -- there are no more: all are
@@ -64,7 +63,7 @@ module _ {cs : List ℕ} {i : ℕ} (s : Scanned cs i) where
     -- the next is one
     pub scanned-next : v < 16 → Scanned cs (i + 1)
     unfolding isDigit
-    scanned-next l = record { within = omega arith; left = s .left ∙ all-next isDigit here (rw (← is) (lt-ltb v 16 l)) }
+    scanned-next l = record { left = s .left ∙ all-next isDigit here (rw (← is) (lt-ltb v 16 l)) }
 
     -- the next is no digit
     pub scanned-here : 16 ≤ v → false ≡ all isDigit cs

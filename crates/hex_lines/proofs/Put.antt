@@ -39,13 +39,12 @@ put-length {xs} {s} {at = at} p = rw (p .left) (length-sets s at xs)
 
 -- the first i of them were put at the front
 pub record Decoded (ds : List ℕ) (i : ℕ) (before after : List ℕ) : Type 0 where
-  pub within : i ≤ length ds / 2
   pub same : length after ≡ length before
   pub put : BytesPut (take i (bytesIn ds)) before 0 i after
 
 -- none, to begin with
 pub decoded-first : {ds s : List ℕ} → Decoded ds 0 s s
-decoded-first = record { within = omega arith; same = refl; put = put-none }
+decoded-first = record { same = refl; put = put-none }
 
 module _ (ds : List ℕ) (i : ℕ) (h : i < length ds / 2) where
   -- the next two digits are digits
@@ -69,7 +68,6 @@ module _ (ds : List ℕ) (i : ℕ) (h : i < length ds / 2) where
   decoded-next {s} {t} {b} d e =
       let inside : i < length (bytesIn ds) = omega (arith, length-bytes ds) in
       record {
-        within = omega arith;
         same = rw length-set (d .same);
         put = rw (add-one i, take-suc (bytesIn ds) i 0 inside, ← byte-in ds i h, ← e, ← add-one i) (put-both (d .put) (put-one t i b));
       }
@@ -117,7 +115,6 @@ pair-put s at byte a b = rw (a, b) (record { moved = refl; left = rw add-one })
 
 -- those of the first i bytes were put from a place on
 pub record Encoded (bytes : List ℕ) (i : ℕ) (before : List ℕ) (at next : ℕ) (after : List ℕ) : Type 0 where
-  pub within : i ≤ length bytes
   pub moved : next ≡ at + 2 * i
   pub same : length after ≡ length before
   pub put : BytesPut (digitsOf (take i bytes)) before at next after
@@ -125,7 +122,7 @@ pub record Encoded (bytes : List ℕ) (i : ℕ) (before : List ℕ) (at next : �
 -- none, to begin with
 pub encoded-first : {bytes s : List ℕ} {at : ℕ} → Encoded bytes 0 s at at s
 unfolding digitsOf
-encoded-first = record { within = omega arith; moved = omega arith; same = refl; put = put-none }
+encoded-first = record { moved = omega arith; same = refl; put = put-none }
 
 module _ {bytes s t : List ℕ} {i at m : ℕ} (e : Encoded bytes i s at m t) where
   module _ (h : i < length bytes) where
@@ -137,7 +134,6 @@ module _ {bytes s t : List ℕ} {i at m : ℕ} (e : Encoded bytes i s at m t) wh
     pub encoded-next : {u : List ℕ} {n : ℕ} → BytesPut (digitsOf (getD bytes i 0 ∷ [])) t m n u → Encoded bytes (i + 1) s at n u
     encoded-next p =
         record {
-          within = omega arith;
           moved = omega (arith, e .moved, p .moved, length-digits (getD bytes i 0 ∷ []));
           same = rw (put-length p) (e .same);
           put = rw (add-one, take-suc bytes i 0 h, digits-last) (put-both (e .put) p);

@@ -37,7 +37,7 @@ fn digit_value(character: u8) -> u8
     ensures { λ r. ⌜ r ≡ digitValue character ⌝ }
 {
     if is_between(b'0', b'9', character) {
-        return character - 48;
+        return character - b'0';
     }
     if is_between(b'A', b'F', character) {
         return character - 55;
@@ -135,7 +135,7 @@ fn capital(n: u8) -> u8
     ensures { λ r. ⌜ r ≡ capital n ⌝ }
 {
     if n < 10 {
-        return 48 + n;
+        return b'0' + n;
     }
     55 + n
 }

@@ -13,6 +13,7 @@ use Rattle.lines.specs.Lines.{LINE-FEED, begins, linesOf, lineWithin, li
 use Rattle.lines.specs.Lines as lines
 use Rattle.lines.specs.Splitter.{Pending, pending, grown, ended, Taken, later, split, last}
 use Rattle.lines.specs.Chunks.{foundLine, readTo, run, joined, ChunksJoin}
+use Rattle.lines.proofs.Taken.{split-takes}
 
 -- ---- characters that end no line
 
@@ -105,8 +106,6 @@ stream-ends (c ∷ cs) {p} l =
 record Told (limit : ℕ) (cs chunk : List ℕ) (s : Taken) : Type 0 where
   begun : List ℕ
   holds : Holds limit begun (s .rest)
-  within : s .taken ≤ length chunk
-  moves : 0 < length chunk → 0 < s .taken
   lines :
       (behind : List ℕ)
       → map (lineWithin limit) (linesOf (cs ++ (chunk ++ behind)))
@@ -114,7 +113,7 @@ record Told (limit : ℕ) (cs chunk : List ℕ) (s : Taken) : Type 0 where
 
 tells : (limit : ℕ) (cs chunk : List ℕ) {p : Pending} → Holds limit cs p → Told limit cs chunk (split p chunk)
 unfolding split later foundLine
-tells limit cs [] {p} l = record { begun = cs; holds = l; within = omega arith; moves = λ h. absurd (omega (arith, h)); lines = λ behind. refl }
+tells limit cs [] {p} l = record { begun = cs; holds = l; lines = λ behind. refl }
 tells limit cs (c ∷ chunk) {p} l = go (eqb c LINE-FEED) refl (λ other. tells limit (cs ++ (c ∷ [])) chunk (holds-more l c other))
   where
     go :
@@ -128,8 +127,6 @@ tells limit cs (c ∷ chunk) {p} l = go (eqb c LINE-FEED) refl (λ other. tells 
         (record {
           begun = [];
           holds = holds-none (p .buffer) (l .sized);
-          within = omega arith;
-          moves = λ h. omega arith;
           lines = λ behind. rw (is, line-ends cs (chunk ++ behind) (l .plain), ends l);
         })
     go false e again =
@@ -138,8 +135,6 @@ tells limit cs (c ∷ chunk) {p} l = go (eqb c LINE-FEED) refl (λ other. tells 
         (record {
           begun = t .begun;
           holds = t .holds;
-          within = omega (arith, t .within);
-          moves = λ h. omega arith;
           lines = λ behind. rw add-one (rw (append-assoc cs (c ∷ []) (chunk ++ behind)) at (t .lines behind));
         })
 
@@ -167,10 +162,11 @@ runs (suc turns) limit cs at [] l h = rw append-nil (stream-ends cs l)
 runs (suc turns) limit cs {p} at (chunk ∷ chunks) l h =
     let s = split p (drop at chunk) in
     let t = tells limit cs (drop at chunk) l in
-    rw (t .lines (joined chunks)) (go s t (λ begun q place left. runs turns limit begun {p = q} place left) (leb (length chunk) (at + s .taken)) refl)
+    rw (t .lines (joined chunks)) (go s t (split-takes p chunk at) (λ begun q place left. runs turns limit begun {p = q} place left) (leb (length chunk) (at + s .taken)) refl)
   where
     go :
         (s : Taken) (t : Told limit cs (drop at chunk) s)
+        → (at < length chunk → 0 < s .taken)
         → ((begun : List ℕ) (q : Pending) (place : ℕ) (left : List (List ℕ))
         → Holds limit begun q
         → length (fed place left) + length left < turns
@@ -179,13 +175,13 @@ runs (suc turns) limit cs {p} at (chunk ∷ chunks) l h =
         → leb (length chunk) (at + s .taken) ≡ done
         → foundLine (s .found) (s .rest .buffer) ++ run turns (s .rest) (readTo (at + s .taken) chunk chunks .at) (readTo (at + s .taken) chunk chunks .chunks)
         ≡ foundLine (s .found) (s .rest .buffer) ++ map (lineWithin limit) (linesOf (t .begun ++ (drop (s .taken) (drop at chunk) ++ joined chunks)))
-    go s t again true e =
+    go s t moves again true e =
         let all : drop (at + s .taken) chunk ≡ [] = drop-of-length-le chunk (leb-true (length chunk) (at + s .taken) e) in
         let fewer : length (fed 0 chunks) + length chunks < turns = rw fed-all (omega (arith, rw length-append at h)) in
         rw (e, drop-drop, all, again (t .begun) (s .rest) 0 chunks (t .holds) fewer, fed-all)
-    go s t again false e =
+    go s t moves again false e =
         let some = leb-false (length chunk) (at + s .taken) e in
-        let moved : 0 < s .taken = t .moves (rw length-drop (omega arith)) in
+        let moved : 0 < s .taken = moves (omega arith) in
         let fewer : length (drop (at + s .taken) chunk ++ joined chunks) + suc (length chunks) < turns =
         rw (length-append, length-drop) (omega (arith, rw (length-append, length-drop) at h)) in
         rw (e, drop-drop, again (t .begun) (s .rest) (at + s .taken) (chunk ∷ chunks) (t .holds) fewer)

@@ -17,7 +17,6 @@ use Rattle.lines.specs.declared.splitter.Found.the-variants.{Nothing}
 -- a loop that takes characters from a place of a chunk on has come to i, and the line that has begun is q: what is left to do is what
 -- the whole is
 pub record Going (p : Pending) (chunk : List ℕ) (at i : ℕ) (q : Pending) : Type 0 where
-  pub from : at ≤ i
   pub same : length (q .buffer) ≡ length (p .buffer)
   pub found : split p (drop at chunk) .found ≡ split q (drop i chunk) .found
   pub rest : split p (drop at chunk) .rest ≡ split q (drop i chunk) .rest
@@ -30,7 +29,7 @@ grown-same p c = length-set (p .buffer) (p .count) c
 
 -- nothing was taken, to begin with
 pub going-first : (p : Pending) (chunk : List ℕ) (at : ℕ) → Going p chunk at at p
-going-first p chunk at = record { from = omega arith; same = refl; found = refl; rest = refl; taken = refl }
+going-first p chunk at = record { same = refl; found = refl; rest = refl; taken = refl }
 
 module _ {p q : Pending} {chunk : List ℕ} {at i : ℕ} (g : Going p chunk at i q) where
   module _ (h : i < length chunk) where
@@ -48,7 +47,6 @@ module _ {p q : Pending} {chunk : List ℕ} {at i : ℕ} (g : Going p chunk at i
     going-next other {r} is =
         let step = on other in
         record {
-          from = omega (arith, g .from);
           same = rw (is, grown-same q (getD chunk i 0)) (g .same);
           found = rw is (g .found ∙ rw step);
           rest = rw is (g .rest ∙ rw step);

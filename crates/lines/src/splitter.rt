@@ -23,7 +23,7 @@ pub struct Split {
     pub found: Found,
 }
 
-// Puts a character behind the so many that a line has, where there is room, and tells how many they are then.
+// Puts a character behind those that a line has, where there is room, and tells how many they are then.
 fn put(line: &mut [u8], count: usize, character: u8) -> usize
     ensures { λ r. ⌜ pending r (now (line .exit)) ≡ grown (pending count (now (line .entry))) character ⌝ }
 {

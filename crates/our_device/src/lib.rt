@@ -48,6 +48,7 @@ fn our_power() -> PowerDescriptorConfig
     }
 }
 
+// Two inputs and one output.
 fn endpoint_1() -> EndpointDescriptor
     ensures { λ r. ⌜ r ≡ endpoint1 ⌝ }
 {
@@ -63,6 +64,7 @@ fn endpoint_1() -> EndpointDescriptor
     }
 }
 
+// Two inputs, behind those of endpoint 1, and no outputs.
 fn endpoint_2() -> EndpointDescriptor
     ensures { λ r. ⌜ r ≡ endpoint2 ⌝ }
 {

@@ -4,14 +4,11 @@ use crate::out;
 use crate::out::Text;
 use crate::replies;
 use crate::words;
-use aps_binding::binding::Binding;
 use zdo_bind_req::descriptor::parse_bind_req;
 use zdo_leave_req::descriptor::parse_mgmt_leave_req;
 use zdo_match_req::descriptor::parse_match_desc_req;
 use zdo_requests::descriptor;
 use zdo_requests::descriptor::AddrOfInterestRead;
-use zdo_requests::descriptor::BindReq;
-use zdo_requests::descriptor::BindReqDestination;
 use zdo_requests::descriptor::BindReqRead;
 use zdo_requests::descriptor::IeeeAddrReqRead;
 use zdo_requests::descriptor::MatchDescReqRead;
@@ -167,22 +164,9 @@ fn bind(bytes: &[u8], text: Text) -> Text {
             let text = out::byte(text, b' ');
             let text = out::hex_u64(text, request.src_address.0);
             let text = out::byte(text, b' ');
-            bindings::put_entry(entry(request), text)
+            bindings::put_entry(request.binding(), text)
         }
         BindReqRead::Refused(_) => out::byte(text, b'R'),
-    }
-}
-
-// The entry that a request says.
-fn entry(request: BindReq) -> Binding {
-    let destination = request.destination;
-    match destination {
-        BindReqDestination::Group(group) => {
-            Binding::group(request.src_endpoint, request.cluster_id, group)
-        }
-        BindReqDestination::Device { ieee, endpoint } => {
-            Binding::device(request.src_endpoint, request.cluster_id, ieee, endpoint)
-        }
     }
 }
 

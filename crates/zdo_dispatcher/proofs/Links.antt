@@ -1,4 +1,4 @@
--- Bind and unbind: the entry that a request names, whether its source is ours, and what the table then does. Assumes nothing.
+-- Bind and unbind: whether the source is ours, and what the table then does. Assumes nothing.
 use Prim.Native.Nat.{ℕ, _≤_, _<_}
 use mathlib.Core.Path.{_≡_, refl, sym, _∙_}
 use mathlib.Core.Bool.{Bool, true, false, not}
@@ -11,14 +11,12 @@ use Rattle.zigbee_types.specs.Refusals.{refusalNumber}
 use Rattle.zigbee_types.specs.Statuses.{SUCCESS, INVALID-EP, NOT-SUPPORTED, NO-ENTRY, TABLE-FULL}
 use Rattle.zigbee_types.specs.Layout.{laid, size}
 use Rattle.zigbee_types.specs.declared.IeeeAddress.{IeeeAddress}
-use Rattle.zigbee_types.specs.declared.GroupAddress.{GroupAddress}
 use Rattle.zigbee_types.specs.declared.Refusal.{Refusal}
 use Rattle.zigbee_types.specs.declared.Refusal.the-variants.{ShortBuffer}
 use Rattle.zigbee_types.specs.declared.Written.the-variants as written
 use Rattle.zigbee_types.proofs.Layouts.{laid-counted}
 use Rattle.zigbee_types.proofs.Outcomes.{wrote-refused}
 use Rattle.zigbee_types.proofs.Scans.{said-no, said-yes}
-use Rattle.aps_binding.specs.Entry.{groupBinding, deviceBinding}
 use Rattle.aps_binding.specs.declared.binding.Binding.{Binding}
 use Rattle.aps_binding_table.specs.Answers.{linkSays}
 use Rattle.aps_binding_table.specs.Held.{Step}
@@ -29,9 +27,8 @@ use Rattle.aps_binding_table.specs.declared.binding.LinkStatus.the-variants as 
 use Rattle.aps_binding_table.proofs.Good.{good-table, count-inside}
 use Rattle.aps_binding_table.proofs.Places.{held-stays}
 use Rattle.zdo_requests.specs.Clusters.{replyCluster}
-use Rattle.zdo_requests.specs.Requests.{bindingTo, bindingOf}
+use Rattle.zdo_requests.specs.Requests.{bindingOf}
 use Rattle.zdo_requests.specs.declared.descriptor.BindReq.{BindReq}
-use Rattle.zdo_requests.specs.declared.descriptor.BindReqDestination.the-variants.{Group, Device}
 use Rattle.zdo_replies.specs.Replies.{statusFields, statusRsp}
 use Rattle.zdo_device.specs.Tables.{supportsEndpoint}
 use Rattle.zdo_device.specs.declared.descriptor.DeviceDescriptorConfig.{DeviceDescriptorConfig}
@@ -39,22 +36,7 @@ use Rattle.zdo_dispatcher.specs.Answers.{reply, Told, replied, tableAfte
 use Rattle.zdo_dispatcher.specs.declared.dispatcher.Link.{Link}
 use Rattle.zdo_dispatcher.specs.declared.dispatcher.Link.the-variants.{Bind, Unbind}
 use Rattle.zdo_dispatcher.specs.declared.dispatcher.Response.the-variants as response
-use Rattle.zdo_dispatcher.proofs.Told.{dispatched-refused, dispatched-reply}
-
--- ---- the entry
-
-module _ (q : BindReq) {b : Binding} where
-  pub to-group : {g : GroupAddress} → q .destination ≡ Group g → b ≡ groupBinding (q .«src_endpoint») (q .«cluster_id») g → b ≡ bindingOf q
-  unfolding bindingOf bindingTo
-  to-group e is = rw e is
-
-  pub to-device :
-      {a : IeeeAddress} {n : ℕ}
-      → q .destination ≡ Device a n
-      → b ≡ deviceBinding (q .«src_endpoint») (q .«cluster_id») a n
-      → b ≡ bindingOf q
-  unfolding bindingOf bindingTo
-  to-device e is = rw e is
+use Rattle.zdo_dispatcher.proofs.Told.{dispatched-refused, dispatched-reply, kept}
 
 -- ---- the source
 
@@ -133,7 +115,7 @@ module _ (l : Link) (source : ℕ) (t : BindingTable) (q : BindReq) (cluster : �
       let long : length out < length (laid (statusFields (q .seq) (step .status))) = rw status-long h in
       rw (lt-leb _ _ long) (dispatched-refused ShortBuffer t out 5 refl)
 
-  module _ {after : List ℕ} {n : Outcome ℕ} {told : Outcome Told} (room : 2 ≤ length out) (is : told ≡ mapped (replied (replyCluster cluster)) n) (good : goodTable t ≡ true) where
+  module _ {after : List ℕ} {n : Outcome ℕ} {told : Outcome Told} (is : told ≡ mapped (replied (replyCluster cluster)) n) (good : goodTable t ≡ true) where
     -- the source is not ours: the table stays
     pub link-denied :
         {code : ℕ}
@@ -145,8 +127,9 @@ module _ (l : Link) (source : ℕ) (t : BindingTable) (q : BindReq) (cluster : �
     unfolding linkAnswer linkStep
     link-denied long is-source other w =
         rw (ne-eqb source SUCCESS (λ e. other (is-source ∙ e)), held-stays t (count-inside (good-table t long good)))
-        (dispatched-reply (replyCluster cluster) (statusRsp (q .seq) source) t w is (brings (q .seq) source (replyCluster cluster) t t out room))
+        (dispatched-reply (replyCluster cluster) (statusRsp (q .seq) source) t w is (kept (replyCluster cluster) t (fitted (length out) (statusRsp (q .seq) source))))
 
+  module _ {after : List ℕ} {n : Outcome ℕ} {told : Outcome Told} (room : 2 ≤ length out) (is : told ≡ mapped (replied (replyCluster cluster)) n) (good : goodTable t ≡ true) where
     -- the source is ours: the table makes a step
     stepped :
         (step : Step) {m : Outcome ℕ} {u : BindingTable}

@@ -1,8 +1,8 @@
 -- Any request: tables that are not good, and then by the cluster. Assumes nothing.
 use Prim.Native.Nat.{ℕ, _^_, _<_}
 use native.Mathlib.Omega.{arith}
-use mathlib.Core.Path.{_≡_, refl}
-use mathlib.Core.Bool.{Bool, true, false, not, and-false}
+use mathlib.Core.Path.{_≡_, refl, sym, _∙_}
+use mathlib.Core.Bool.{Bool, true, false, not, _&&_, and-eq-true-iff}
 use mathlib.Core.List.{List, [], _∷_}
 use lib.ListN.{length}
 use borrow.Author.Tests.{ne-eqb}
@@ -27,7 +27,7 @@ use Rattle.zdo_requests.specs.declared.descriptor.BindReqRead.the-variants as b
 use Rattle.zdo_requests.specs.declared.descriptor.MgmtLeaveReq.{MgmtLeaveReq}
 use Rattle.zdo_requests.specs.declared.descriptor.MgmtLeaveReqRead.{MgmtLeaveReqRead}
 use Rattle.zdo_requests.specs.declared.descriptor.MgmtLeaveReqRead.the-variants as leaves
-use Rattle.zdo_device.specs.Tables.{goodDevice}
+use Rattle.zdo_device.specs.Tables.{Pools, goodDevice}
 use Rattle.zdo_device.specs.declared.descriptor.DeviceDescriptorConfig.{DeviceDescriptorConfig}
 use Rattle.zdo_discovery.specs.Host.{Host, asking, goodHost}
 use Rattle.zdo_discovery.specs.Discovery.{discovery, discovered}
@@ -36,7 +36,7 @@ use Rattle.zdo_dispatcher.specs.Answers.{reply, leave, Told, replied, le
 use Rattle.zdo_dispatcher.specs.declared.dispatcher.Link.{Link}
 use Rattle.zdo_dispatcher.specs.declared.dispatcher.Link.the-variants.{Bind, Unbind}
 use Rattle.zdo_dispatcher.specs.declared.dispatcher.Response.the-variants as response
-use Rattle.zdo_dispatcher.proofs.Told.{dispatched-refused, dispatched-reply}
+use Rattle.zdo_dispatcher.proofs.Told.{dispatched-refused, dispatched-reply, kept}
 
 -- ---- what was parsed
 
@@ -79,36 +79,25 @@ unfolding mapped toldOf tableAfter bufferAfter
 left t before (answer q) e = record { said = e; table = refl; buffer = refl }
 left t before (refusal n) e = record { said = e; table = refl; buffer = refl }
 
--- a reply that brings the table that was there leaves it, and so does a refusal
-kept : (cluster : ℕ) (t : BindingTable) (o : Outcome (List ℕ)) → t ≡ tableAfter t (mapped (λ bytes. reply cluster bytes t) o)
-unfolding mapped tableAfter
-kept cluster t (answer bytes) = refl
-kept cluster t (refusal n) = refl
-
 -- ---- the tables
 
--- a binding table that was found good
-pub table-good : (t : BindingTable) {q : Bool} → q ≡ goodSizes (t .count) (t .limit) → not q ≡ false → goodTable t ≡ true
-unfolding goodTable
-table-good t is good = said-yes is good
+module _ (h : Host) (t : BindingTable) {p q : Bool} (device : p ≡ goodDevice (h .pools) (h .device)) (table : q ≡ goodSizes (t .count) (t .limit)) where
+  -- both were tested
+  both : (p && q) ≡ (goodHost h && goodTable t)
+  unfolding goodHost goodTable
+  both = rw (device, table)
 
-module _ (h : Host) (t : BindingTable) (cluster : ℕ) (payload out : List ℕ) {p : Bool} (device : p ≡ goodDevice (h .pools) (h .device)) where
-  -- the device's are not good
-  pub bad-device : not p ≡ true → Dispatched (answered h t (asking cluster payload out)) t out (responseSays (response.Refused BadTables)) t out
-  unfolding answered goodHost responseSays
-  bad-device bad = rw (said-no device bad) (dispatched-refused BadTables t out 1 refl)
+  module _ (cluster : ℕ) (payload out : List ℕ) where
+    -- they are not good
+    pub bad-tables : not (p && q) ≡ true → Dispatched (answered h t (asking cluster payload out)) t out (responseSays (response.Refused BadTables)) t out
+    unfolding answered responseSays
+    bad-tables bad = rw (said-no both bad) (dispatched-refused BadTables t out 1 refl)
 
-  module _ (fine : not p ≡ false) {q : Bool} (table : q ≡ goodSizes (t .count) (t .limit)) where
-    -- the binding table is not
-    pub bad-table : not q ≡ true → Dispatched (answered h t (asking cluster payload out)) t out (responseSays (response.Refused BadTables)) t out
-    unfolding answered goodHost goodTable responseSays
-    bad-table bad = rw (said-no table bad, and-false) (dispatched-refused BadTables t out 1 refl)
-
-    module _ (good : not q ≡ false) where
-      -- both are
+    module _ (good : not (p && q) ≡ false) where
+      -- they are
       by : answered h t (asking cluster payload out) ≡ byCluster h t (asking cluster payload out)
-      unfolding answered goodHost
-      by = rw (said-yes device fine, table-good t table good)
+      unfolding answered
+      by = rw (said-yes both good)
 
       -- ---- by the cluster
 
@@ -136,15 +125,38 @@ module _ (h : Host) (t : BindingTable) (cluster : ℕ) (payload out : List ℕ) 
       at-leave e f = rw (by, e) (left t out (mgmtLeaveReqIn payload) f)
 
       pub at-discovery :
-          {told : Outcome Told} {n : Outcome ℕ} {after : List ℕ}
+          {told : Outcome Told} {after : List ℕ}
           → Unnamed Unit (λ k. k) cluster (BIND-REQ ∷ UNBIND-REQ ∷ MGMT-LEAVE-REQ ∷ [])
-          → Wrote (discovery h cluster payload) out n after
-          → told ≡ mapped (replied (replyCluster cluster)) n
+          → ((u : BindingTable) → Dispatched (mapped (λ bytes. reply (replyCluster cluster) bytes u) (discovered h (asking cluster payload out))) u out told u after)
           → Dispatched (answered h t (asking cluster payload out)) t out told t after
-      unfolding byCluster asking discovered
-      at-discovery (((none, bind), unbind), leaves) w e =
-          rw (by, ne-eqb cluster BIND-REQ bind, ne-eqb cluster UNBIND-REQ unbind, ne-eqb cluster MGMT-LEAVE-REQ leaves)
-          (dispatched-reply (replyCluster cluster) (discovery h cluster payload) t w e (kept (replyCluster cluster) t (fitted (length out) (discovery h cluster payload))))
+      unfolding byCluster asking
+      at-discovery (((none, bind), unbind), leaves) w =
+          rw (by, ne-eqb cluster BIND-REQ bind, ne-eqb cluster UNBIND-REQ unbind, ne-eqb cluster MGMT-LEAVE-REQ leaves) (w t)
+
+-- tables that were found good
+module _ (p : Pools) (d : DeviceDescriptorConfig) (t : BindingTable) {x y : Bool} (device : x ≡ goodDevice p d) (table : y ≡ goodSizes (t .count) (t .limit)) (good : not (x && y) ≡ false) where
+  each : (x ≡ true) × (y ≡ true)
+  each = and-eq-true-iff x y .0 (said-yes refl good)
+
+  pub device-good : goodDevice p d ≡ true
+  device-good = sym device ∙ each .0
+
+  pub table-good : goodTable t ≡ true
+  unfolding goodTable
+  table-good = sym table ∙ each .1
+
+-- ---- discovery
+
+-- what is told of a reply, whatever the binding table
+pub discovery-told :
+    (h : Host) (cluster : ℕ) (payload out : List ℕ) {after : List ℕ} {n : Outcome ℕ} {told : Outcome Told}
+    → Wrote (discovery h cluster payload) out n after
+    → told ≡ mapped (replied (replyCluster cluster)) n
+    → (t : BindingTable)
+    → Dispatched (mapped (λ bytes. reply (replyCluster cluster) bytes t) (discovered h (asking cluster payload out))) t out told t after
+unfolding discovered asking
+discovery-told h cluster payload out w e t =
+    dispatched-reply (replyCluster cluster) (discovery h cluster payload) t w e (kept (replyCluster cluster) t (fitted (length out) (discovery h cluster payload)))
 
 -- the cluster of a discovery request that is answered is low
 pub low-cluster :

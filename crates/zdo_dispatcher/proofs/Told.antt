@@ -57,3 +57,9 @@ dispatched-reply cluster o u {t} {v} {before} {after} {n} {told} w e f = go (fit
         → Dispatched (mapped (λ bytes. reply cluster bytes u) p) t before told v after
     go (answer bytes) said left kept = record { said = rw (e, said); table = kept; buffer = left }
     go (refusal k) said left kept = record { said = rw (e, said); table = kept; buffer = left }
+
+-- a reply that brings the table that was there leaves it, and so does a refusal
+pub kept : (cluster : ℕ) (t : BindingTable) (o : Outcome (List ℕ)) → t ≡ tableAfter t (mapped (λ bytes. reply cluster bytes t) o)
+unfolding mapped tableAfter
+kept cluster t (answer bytes) = refl
+kept cluster t (refusal n) = refl

@@ -15,7 +15,6 @@ use zdo_replies::descriptor::STATUS_SUCCESS;
 use zdo_replies::descriptor::bind_rsp;
 use zdo_requests::descriptor::BIND_REQ;
 use zdo_requests::descriptor::BindReq;
-use zdo_requests::descriptor::BindReqDestination;
 use zdo_requests::descriptor::BindReqRead;
 use zdo_requests::descriptor::MGMT_LEAVE_REQ;
 use zdo_requests::descriptor::MgmtLeaveReq;
@@ -37,9 +36,10 @@ ghost use Rattle.zdo_requests.specs.Clusters.{replyCluster};
 ghost use Rattle.zdo_requests.specs.Requests.{bindReqIn, bindingOf, mgmtLeaveReqIn};
 ghost use Rattle.zdo_replies.specs.Codes.{bindCode};
 ghost use Rattle.zdo_replies.specs.Replies.{statusRsp};
-ghost use Rattle.zdo_device.specs.Tables.{pools};
+ghost use Rattle.zdo_device.specs.Tables.{pools, goodDevice};
 ghost use Rattle.zdo_discovery.specs.Host.{hostWith, asking};
-ghost use Rattle.zdo_dispatcher.specs.Answers.{leaving, replied, responseSays, stepOf, sourceStatus, linkAnswer, onLink, answered, Dispatched};
+ghost use Rattle.zdo_discovery.specs.Discovery.{discovered};
+ghost use Rattle.zdo_dispatcher.specs.Answers.{reply, leaving, replied, responseSays, stepOf, sourceStatus, linkAnswer, onLink, answered, Dispatched};
 
 // What a request came to: a reply that was written, by its cluster and length; a leave, which is handed to the host; or why it was
 // refused.
@@ -80,21 +80,6 @@ enum Link {
     Unbind,
 }
 
-// The entry that a bind or unbind request names.
-fn binding(request: BindReq) -> Binding
-    ensures { λ r. ⌜ r ≡ bindingOf request ⌝ }
-{
-    let destination = request.destination;
-    match destination {
-        BindReqDestination::Group(group) => {
-            Binding::group(request.src_endpoint, request.cluster_id, group)
-        }
-        BindReqDestination::Device { ieee, endpoint } => {
-            Binding::device(request.src_endpoint, request.cluster_id, ieee, endpoint)
-        }
-    }
-}
-
 // Success where a request's source is ours, its address first and then its endpoint; or the status that says what is not.
 fn source_status(
     device: DeviceDescriptorConfig,
@@ -113,7 +98,7 @@ fn source_status(
 }
 
 // Binds or unbinds an entry.
-fn linked(link: Link, table: BindingTable, binding: Binding) -> Linked
+fn bind_or_unbind(link: Link, table: BindingTable, binding: Binding) -> Linked
     ensures { λ r. ⌜ Leaves (onGood table (stepOf link table binding)) table (linkSays (r .status)) (r .table) ⌝ }
 {
     match link {
@@ -161,7 +146,7 @@ fn link_answer(
             response: told(cluster, written),
         };
     }
-    let linked = linked(link, table, binding(request));
+    let linked = bind_or_unbind(link, table, request.binding());
     let status = linked.status;
     let table = linked.table;
     let written = link_rsp(request.seq, status, out);
@@ -211,6 +196,35 @@ fn on_leave(payload: &[u8]) -> Response
     }
 }
 
+// ---- discovery
+
+// Answers a discovery request, of tables that were checked. No binding table comes into it.
+fn on_discovery<'a>(
+    device: DeviceDescriptorConfig,
+    ieee_addr: IeeeAddress,
+    nwk_addr: ShortAddress,
+    inputs: &'a [u16],
+    outputs: &'a [u16],
+    cluster: u16,
+    payload: &[u8],
+    out: &mut [u8],
+) -> Response
+    requires { ⌜ goodDevice (pools (now inputs) (now outputs)) device ≡ true ⌝ }
+    ensures { λ r. ⌜ ((t : BindingTable) → Dispatched (mapped (λ bytes. reply (replyCluster cluster) bytes t) (discovered (hostWith device «ieee_addr» «nwk_addr» (pools (now (inputs .entry)) (now (outputs .entry)))) (asking cluster (now (payload .entry)) (now (out .entry))))) t (now (out .entry)) (responseSays r) t (now (out .exit))) ⌝ }
+{
+    let written = discovery(
+        device,
+        ieee_addr,
+        nwk_addr,
+        inputs,
+        outputs,
+        cluster,
+        payload,
+        out,
+    );
+    told(cluster, written)
+}
+
 // ---- any request
 
 // Answers a request: a reply in the buffer, or a leave for the host, with the table after it. Refused are bad tables, then a cluster
@@ -229,13 +243,8 @@ pub fn dispatch<'a>(
 ) -> Responded
     ensures { λ r. ⌜ Dispatched (answered (hostWith device «ieee_addr» «nwk_addr» (pools (now (inputs .entry)) (now (outputs .entry)))) table (asking cluster (now (payload .entry)) (now (out .entry)))) table (now (out .entry)) (responseSays (r .response)) (r .table) (now (out .exit)) ⌝ }
 {
-    if !device.good_tables(inputs, outputs) {
-        return Responded {
-            table,
-            response: Response::Refused(Refusal::BadTables),
-        };
-    }
-    if !good_sizes(table.count, table.limit) {
+    let good = device.good_tables(inputs, outputs) & good_sizes(table.count, table.limit);
+    if !good {
         return Responded {
             table,
             response: Response::Refused(Refusal::BadTables),
@@ -256,8 +265,9 @@ pub fn dispatch<'a>(
             table,
             response: on_leave(payload),
         },
-        _ => {
-            let written = discovery(
+        _ => Responded {
+            table,
+            response: on_discovery(
                 device,
                 ieee_addr,
                 nwk_addr,
@@ -266,11 +276,7 @@ pub fn dispatch<'a>(
                 cluster,
                 payload,
                 out,
-            );
-            Responded {
-                table,
-                response: told(cluster, written),
-            }
-        }
+            ),
+        },
     }
 }

@@ -1,4 +1,5 @@
 // Requests as they are parsed, and the one that is written (000).
+use aps_binding::binding::Binding;
 use byte::read_u8;
 use byte::read_u16;
 use byte::read_u64;
@@ -13,7 +14,7 @@ use zigbee_types::Written;
 ghost use mathlib.Core.Path.{_≡_};
 ghost use Rattle.zigbee_types.specs.Outcome.{Wrote};
 ghost use Rattle.zigbee_types.specs.Answers.{writtenSays};
-ghost use Rattle.zdo_requests.specs.Requests.{nwkAddrReqIn, ieeeAddrReqIn, addrOfInterestReqIn, addrOfInterestIn, simpleDescReqIn, nodeDescReq};
+ghost use Rattle.zdo_requests.specs.Requests.{nwkAddrReqIn, ieeeAddrReqIn, addrOfInterestReqIn, addrOfInterestIn, simpleDescReqIn, nodeDescReq, bindingOf};
 ghost use Rattle.zdo_requests.specs.Answers.{nwkAddrReqSays, ieeeAddrReqSays, addrOfInterestReqSays, addrOfInterestSays, simpleDescReqSays};
 
 // ZDP request cluster identifiers (2.4.3).
@@ -118,6 +119,23 @@ pub struct BindReq {
 pub enum BindReqDestination {
     Group(GroupAddress),
     Device { ieee: IeeeAddress, endpoint: u8 },
+}
+
+impl BindReq {
+    // The entry that the request names. (Added: the Rust leaves this to its caller.)
+    pub fn binding(self) -> Binding
+        ensures { λ r. ⌜ r ≡ bindingOf self ⌝ }
+    {
+        let destination = self.destination;
+        match destination {
+            BindReqDestination::Group(group) => {
+                Binding::group(self.src_endpoint, self.cluster_id, group)
+            }
+            BindReqDestination::Device { ieee, endpoint } => {
+                Binding::device(self.src_endpoint, self.cluster_id, ieee, endpoint)
+            }
+        }
+    }
 }
 
 // A parsed Mgmt_Leave_req (2.4.3.3.5).

@@ -8,10 +8,10 @@ use Rattle.answer.proofs.answer_all.Statement.{statement}
 use Rattle.answer.proofs.answer_all.Tie as tie
 
 abbrev Inv-loop : tie.InvT-loop
-Inv-loop input₀ line₀ out₀ session₀ turns₀ input line out session turns = (length input ≡ length input₀) × (length out ≡ length out₀)
+Inv-loop input₀ line₀ out₀ session₀ reads₀ input line out session reads = (length input ≡ length input₀) × (length out ≡ length out₀)
 
 abbrev μ-loop : tie.MeasureT-loop
-μ-loop input₀ line₀ out₀ session₀ turns₀ input line out session turns = turns
+μ-loop input₀ line₀ out₀ session₀ reads₀ input line out session reads = reads
 
 ruleset laws = (needs, front-part)
 
@@ -32,7 +32,7 @@ answer-all-spec =
     (λ c. search laws)  -- slice-reshare-prefix-answer-chunk
     (λ c. search laws)  -- slice-aggregate-answer-chunk
     (λ c κs. search laws)  -- answer-chunk-requires
-    (λ c. search laws)  -- sub-turns
+    (λ c. search laws)  -- sub-reads
     (λ c. search laws)  -- loop-less
     (λ c. search laws)  -- loop-again
     (λ c. search laws)  -- same-length-3

@@ -1,4 +1,5 @@
 -- `is_request` meets its contract, at each of its ways out. Assumes nothing.
+use native.Mathlib.Omega.{arith}
 use borrow.Author.Needs.{needs}
 use Rattle.hex_lines.proofs.Request.{line-short, line-even, line-front, line-tested}
 use Rattle.hex_lines.proofs.is_request.Statement.{statement}
@@ -10,7 +11,7 @@ pub is-request-spec : {M : Type 1} → statement M
 is-request-spec =
     tie.close
     (tie.spec
-    (λ c. search laws)  -- returns
+    (λ c. line-short _ (omega arith))  -- returns
     (λ c. search laws)  -- returns-2
     (λ c. search laws)  -- slice-aggregate-are-digits
     (λ c κs. search laws)  -- are-digits-requires

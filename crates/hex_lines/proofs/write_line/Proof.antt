@@ -1,14 +1,13 @@
 -- `write_line` meets its contract: too short a buffer is refused; otherwise the cluster, the space and the bytes are put.
 -- Assumes nothing.
 use native.Mathlib.Omega.{arith}
-use lib.ListN.{length-set}
 use borrow.Author.Needs.{needs}
 use Rattle.hex_lines.specs.Hex.{digitsOf}
-use Rattle.hex_lines.proofs.Line.{line-full, line-written}
+use Rattle.hex_lines.proofs.Line.{line-full, line-same, line-room, line-written}
 use Rattle.hex_lines.proofs.write_line.Statement.{statement}
 use Rattle.hex_lines.proofs.write_line.Tie as tie
 
-ruleset laws = (needs, line-written)
+ruleset laws = (needs, line-same, line-room, line-written)
 
 pub write-line-spec : {M : Type 1} → statement M
 unfolding digitsOf
@@ -24,6 +23,6 @@ write-line-spec =
     (λ c κs. search laws)  -- put-pair-requires-2
     (λ c. search laws)  -- slice-write-out
     (λ c. search laws)  -- add-put-digits
-    (λ c κs. rw length-set (omega arith))  -- put-digits-requires
-    (λ c. let kept = rw length-set at (c .before .before .put-digits .kept .0) in omega arith)  -- same-length
+    (λ c κs. search laws)  -- put-digits-requires
+    (λ c. search laws)  -- same-length
     (λ c. search laws))  -- returns-3

@@ -1,29 +1,26 @@
 -- `dispatch` meets its contract: bad tables, and then each cluster. Assumes nothing.
 use borrow.Author.Needs.{needs}
-use Rattle.zigbee_types.proofs.Scans.{said-yes}
-use Rattle.zdo_dispatcher.proofs.Requests.{bad-device, bad-table, table-good, at-bind, at-unbind, at-leave, at-discovery, low-cluster}
+use Rattle.zdo_dispatcher.proofs.Requests.{bad-tables, device-good, table-good, at-bind, at-unbind, at-leave, at-discovery}
 use Rattle.zdo_dispatcher.proofs.dispatcher.dispatch.Statement.{statement}
 use Rattle.zdo_dispatcher.proofs.dispatcher.dispatch.Tie as tie
 
-ruleset laws = (needs, bad-device, bad-table, at-bind, at-unbind, at-leave, at-discovery)
+ruleset laws = (needs, bad-tables, device-good, table-good, at-bind, at-unbind, at-leave, at-discovery)
 
 pub dispatch-spec : {M : Type 1} → statement M
 dispatch-spec =
     tie.close
     (tie.spec
     (λ c κs. search laws)  -- good-tables-requires
-    (λ c. search laws)  -- returns
     (λ c κs. search laws)  -- good-sizes-requires
-    (λ c. search laws)  -- returns-2
-    (λ c κs. (table-good _ (c .before .before .before .good-sizes .ensures) (c .before .before .if2 .left), search needs))  -- on-link-requires
-    (λ c κs. (table-good _ (c .before .before .before .good-sizes .ensures) (c .before .before .if2 .left), search needs))  -- on-link-requires-2
+    (λ c. search laws)  -- returns
+    (λ c κs. search laws)  -- on-link-requires
+    (λ c κs. search laws)  -- on-link-requires-2
     (λ c κs. search laws)  -- on-leave-requires
-    (λ c κs. search said-yes)  -- discovery-requires
-    (λ c κs. search low-cluster)  -- told-requires
+    (λ c κs. search laws)  -- on-discovery-requires
     (λ c. search laws)  -- same-length
-    (λ c. search laws)  -- returns-3
+    (λ c. search laws)  -- returns-2
     (λ c. search laws)  -- same-length-2
+    (λ c. search laws)  -- returns-3
     (λ c. search laws)  -- returns-4
-    (λ c. search laws)  -- returns-5
     (λ c. search laws)  -- same-length-3
-    (λ c. search laws))  -- returns-6
+    (λ c. search laws))  -- returns-5

@@ -1,25 +1,26 @@
 -- `link_answer` meets its contract, at each of its ways out. Assumes nothing.
+use native.Mathlib.Omega.{arith}
 use borrow.Author.Needs.{needs}
 use Rattle.zigbee_types.proofs.Elements.{length-mapped}
 use Rattle.zdo_dispatcher.proofs.Links.{link-full, link-denied, link-made}
 use Rattle.zdo_dispatcher.proofs.dispatcher.link_answer.Statement.{statement}
 use Rattle.zdo_dispatcher.proofs.dispatcher.link_answer.Tie as tie
 
-ruleset laws = (needs, length-mapped, link-full, link-denied)
+ruleset laws = (needs, length-mapped, link-denied)
 
 pub link-answer-spec : {M : Type 1} → statement M
 link-answer-spec =
     tie.close
     (tie.spec
-    (λ c. search laws)  -- returns
+    (λ c. link-full _ _ _ _ _ _ (omega arith))  -- returns
     (λ c κs. search laws)  -- code-requires
     (λ c κs. search laws)  -- bind-rsp-requires
     (λ c κs. search laws)  -- told-requires
     (λ c. search laws)  -- same-length
     (λ c. search laws)  -- returns-2
     (λ c κs. search laws)  -- binding-requires
-    (λ c κs. search laws)  -- linked-requires
+    (λ c κs. search laws)  -- bind-or-unbind-requires
     (λ c κs. search laws)  -- link-rsp-requires
     (λ c κs. search laws)  -- told-requires-2
     (λ c. search laws)  -- same-length-2
-    (λ c. link-made _ _ _ _ _ _ (search needs) (c .told2 .ensures) (search needs) (c .before .before .before .before .before .before .before .before .before .code .ensures) (c .before .before .before .before .before .before .before .before .if2 .left) (c .before .before .before .before .before .before .before .binding .ensures) (c .before .before .before .before .before .before .linked .ensures) (c .before .before .before .link-rsp .ensures)))  -- returns-3
+    (λ c. link-made _ _ _ _ _ _ (search needs) (c .told2 .ensures) (search needs) (c .before .before .before .before .before .before .before .before .before .code .ensures) (c .before .before .before .before .before .before .before .before .if2 .left) (c .before .before .before .before .before .before .before .binding .ensures) (c .before .before .before .before .before .before .bind-or-unbind .ensures) (c .before .before .before .link-rsp .ensures)))  -- returns-3

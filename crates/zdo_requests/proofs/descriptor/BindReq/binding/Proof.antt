@@ -1,8 +1,8 @@
--- `binding` meets its contract, for each destination. Assumes nothing.
+-- `BindReq::binding` meets its contract, for each destination. Assumes nothing.
 use borrow.Author.Needs.{needs}
-use Rattle.zdo_dispatcher.proofs.Links.{to-group, to-device}
-use Rattle.zdo_dispatcher.proofs.dispatcher.binding.Statement.{statement}
-use Rattle.zdo_dispatcher.proofs.dispatcher.binding.Tie as tie
+use Rattle.zdo_requests.proofs.Named.{to-group, to-device}
+use Rattle.zdo_requests.proofs.descriptor.BindReq.binding.Statement.{statement}
+use Rattle.zdo_requests.proofs.descriptor.BindReq.binding.Tie as tie
 
 ruleset laws = (needs, to-group, to-device)
 
