@@ -19,7 +19,7 @@ fn write_out(out: &[u8], end: usize)
     io::write_all(STDOUT_FILENO, &out[..end]);
 }
 
-// Writes out what waits where there is no room for any text behind it, and tells how much waits then.
+// Writes out what waits where there is no room for the longest text behind it, and tells how much waits then.
 fn make_room(out: &[u8], end: usize) -> usize
     requires { ⌜ (end ≤ length (now out)) × (262 ≤ length (now out)) ⌝ }
     ensures { λ r. ⌜ r + 262 ≤ length (now (out .entry)) ⌝ }

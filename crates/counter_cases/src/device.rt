@@ -52,7 +52,7 @@ const AGAIN: EndpointDescriptor = EndpointDescriptor {
     output_count: 0,
 };
 
-// Our device, with a count of 2. In the other places stands the record that has number 1 again.
+// Our device, with this count of records. In the other places stands the record that has number 1 again.
 pub(crate) fn our_device(count: usize) -> DeviceDescriptorConfig {
     let node = descriptors::our_node();
     let power = descriptors::our_power();
