@@ -33,7 +33,7 @@ ghost use Rattle.zigbee_types.specs.Answers.{writtenSays};
 ghost use Rattle.aps_binding_table.specs.Answers.{linkSays};
 ghost use Rattle.aps_binding_table.specs.Table.{goodTable, onGood, Leaves};
 ghost use Rattle.zdo_requests.specs.Clusters.{replyCluster};
-ghost use Rattle.zdo_requests.specs.Requests.{bindReqIn, bindingOf, mgmtLeaveReqIn};
+ghost use Rattle.zdo_requests.specs.Requests.{bindReqIn, mgmtLeaveReqIn};
 ghost use Rattle.zdo_replies.specs.Codes.{bindCode};
 ghost use Rattle.zdo_replies.specs.Replies.{statusRsp};
 ghost use Rattle.zdo_device.specs.Tables.{pools, goodDevice};

@@ -6,7 +6,7 @@ use Rattle.zdo_dispatcher.proofs.Links.{link-full, link-denied, link-ma
 use Rattle.zdo_dispatcher.proofs.dispatcher.link_answer.Statement.{statement}
 use Rattle.zdo_dispatcher.proofs.dispatcher.link_answer.Tie as tie
 
-ruleset laws = (needs, length-mapped, link-denied)
+ruleset laws = (needs, length-mapped, link-denied, link-made)
 
 pub link-answer-spec : {M : Type 1} → statement M
 link-answer-spec =
@@ -23,4 +23,4 @@ link-answer-spec =
     (λ c κs. search laws)  -- link-rsp-requires
     (λ c κs. search laws)  -- told-requires-2
     (λ c. search laws)  -- same-length-2
-    (λ c. link-made _ _ _ _ _ _ (search needs) (c .told2 .ensures) (search needs) (c .before .before .before .before .before .before .before .before .before .code .ensures) (c .before .before .before .before .before .before .before .before .if2 .left) (c .before .before .before .before .before .before .before .binding .ensures) (c .before .before .before .before .before .before .bind-or-unbind .ensures) (c .before .before .before .link-rsp .ensures)))  -- returns-3
+    (λ c. search laws))  -- returns-3
