@@ -70,7 +70,8 @@ fn answer_chunk(begun: Session, chunk: &[u8], line: &mut [u8; LINE], out: &mut [
     session
 }
 
-// The end of the input: answers the last line, if it has a character, and tells how many entries the binding table holds.
+// The end of the input: answers the last line, if it has a character, and tells how many entries the binding table holds. (The buffer
+// has room for that.)
 fn finish(session: Session, line: &[u8; LINE], out: &mut [u8]) {
     let written = session.end(line, out);
     if let Written::Length(n) = written {

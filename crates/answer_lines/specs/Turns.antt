@@ -46,8 +46,9 @@ ending p t = session ours t (foundLine (last p) (p .buffer))
 
 -- ---- all turns
 
--- what is written in at most so many turns, with a line that has begun and a binding table, for chunks, the first from a place on; each
--- turn has its room, by the number of turns behind it. (Where no turn is left it ends there.)
+-- what is written in at most so many turns, with a line that has begun and a binding table, for chunks, the first from a place on. `room`
+-- gives the room of each turn, by how many turns are left after it. (The last turn is said for a buffer that has room for all of it;
+-- `Session::end` refuses a shorter one. Where no turn is left it ends there.)
 unfoldable pub inTurns : ℕ → (ℕ → ℕ) → Pending → BindingTable → ℕ → List (List ℕ) → List ℕ
 inTurns zero room p t at chunks = session ours t []
 inTurns (suc turns) room p t at [] = ending p t

@@ -10,7 +10,7 @@ use our_device::our_response;
 use zdo_dispatcher::dispatcher::Response;
 use zigbee_types::Refusal;
 use zigbee_types::Written;
-ghost use Prim.Native.Nat.{ℕ, _<_, _≤_};
+ghost use Prim.Native.Nat.{ℕ, _≤_};
 ghost use mathlib.Core.Path.{_≡_};
 ghost use lib.ListN.{length, take, drop, replicate};
 ghost use Rattle.zigbee_types.specs.Answers.{writtenSays};

@@ -185,8 +185,8 @@ abbrev pub matchA : List ℕ
 matchA = 0x09 ∷ 0x34 ∷ 0x12 ∷ 0x04 ∷ 0x01 ∷ 0x01 ∷ 0x02 ∷ 0x04 ∷ 0x00 ∷ []
 
 -- A record behind the count answers for nothing: the active list, its simple reply, a match that it has too, and a bind from it. A
--- list of 32 is whole: the reply's first bytes, and how many they are with its cluster; and a buffer one byte short. An unknown cluster with a pool that is too
--- short, and with one of 513 clusters.
+-- list of 32 is whole: the reply's cluster and its first five bytes, and the number of all its bytes and one for the cluster; and a
+-- buffer one byte short. An unknown cluster with a pool that is too short, and with one of 513 clusters.
 unfoldable pub HostTables : Case
 HostTables =
     record {

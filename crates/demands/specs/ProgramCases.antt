@@ -32,7 +32,7 @@ Sample =
     }
 
 -- what is no request: nothing, no payload, an odd digit, two spaces, no space, another character in each place, a carriage return; and
--- what is one: a leave, an unknown cluster, too short a payload, a bind with a small digit, and every letter in either case
+-- what is one: a leave, an unknown cluster, too short a payload, a bind with a small letter, and every letter in either case
 unfoldable pub Typed : Case
 Typed =
     record {
@@ -74,7 +74,7 @@ Ending =
           ∷ [];
     }
 
--- a line that binds to a group, by the two digits of its low byte
+-- a line that binds to a group, by the two digits of the group's low byte
 abbrev pub bindTo : String → List ℕ
 bindTo digits = typed "0021 0A080706050403020101020401" ++ typed digits ++ typed "00" ++ 10 ∷ []
 

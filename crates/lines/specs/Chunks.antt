@@ -22,7 +22,7 @@ pub record Unread : Type 0 where
   pub at : ℕ
   pub chunks : List (List ℕ)
 
--- what is left of a chunk that was read up to a place, and of those behind it: where it was read to its end, those
+-- what is left of a chunk that was read up to a place, and of those behind it; where it was read to its end, only those, from their start
 unfoldable pub readTo : ℕ → List ℕ → List (List ℕ) → Unread
 readTo at chunk chunks = cond (leb (length chunk) at) (record { at = 0; chunks = chunks }) (record { at = at; chunks = chunk ∷ chunks })
 

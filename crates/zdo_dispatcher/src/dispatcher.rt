@@ -24,7 +24,7 @@ use zigbee_types::IeeeAddress;
 use zigbee_types::Refusal;
 use zigbee_types::ShortAddress;
 use zigbee_types::Written;
-ghost use Prim.Native.Nat.{ℕ, _+_, _^_, _<_};
+ghost use Prim.Native.Nat.{ℕ, _^_, _<_};
 ghost use mathlib.Core.Path.{_≡_};
 ghost use mathlib.Core.Bool.{true};
 ghost use lib.ListN.{length};
@@ -198,7 +198,8 @@ fn on_leave(payload: &[u8]) -> Response
 
 // ---- discovery
 
-// Answers a discovery request, of tables that were checked. No binding table comes into it.
+// Answers a discovery request, and refuses a cluster that is none of the ten. The device's tables were checked, and no binding table
+// comes into it.
 fn on_discovery<'a>(
     device: DeviceDescriptorConfig,
     ieee_addr: IeeeAddress,

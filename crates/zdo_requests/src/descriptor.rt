@@ -122,7 +122,7 @@ pub enum BindReqDestination {
 }
 
 impl BindReq {
-    // The entry that the request names. (Added: the Rust leaves this to its caller.)
+    // The entry that the request names. (Added: the Rust's files have none.)
     pub fn binding(self) -> Binding
         ensures { λ r. ⌜ r ≡ bindingOf self ⌝ }
     {
