@@ -4,15 +4,15 @@ use native.Mathlib.Nat.{not-suc-le-zero, pow-suc}
 use native.Mathlib.Numerals.{add-one}
 use native.Mathlib.Omega.{arith}
 use mathlib.Core.Path.{_≡_, refl}
-use mathlib.Core.Bool.{Bool, true, false, _&&_}
+use mathlib.Core.Bool.{Bool, true, false}
 use mathlib.Core.List.{List, [], _∷_, _++_}
-use lib.Dec.{leb, ltb}
+use lib.Dec.{ltb}
 use lib.ListN.{length, getD, length-append, List·getD-append}
 use borrow.Author.Tests.{ltb-true, ltb-false, lt-ltb, le-ltb, le-leb}
 use Rattle.zigbee_types.specs.Lists.{all}
 use Rattle.zigbee_types.proofs.Elements.{all-last}
 use Rattle.decimal.specs.Decimal.{digit, digitsWithin, decimal}
-use Rattle.decimal.specs.ReadBack.{readOn, DecimalReadsBack, DecimalDigits, DecimalShort}
+use Rattle.decimal.specs.ReadBack.{readOn, NINE, isDecimal, DecimalReadsBack, DecimalDigits, DecimalShort}
 
 -- ---- by the quotient by ten
 
@@ -90,8 +90,9 @@ decimal-back = by-ten _ (λ n h. rw (decimal-one n h) (omega arith)) (λ n h p. 
 -- ---- that they are digits, the first of which is no zero
 
 -- the character of a digit is one of `0` to `9`
-digit-is : (d : ℕ) → d < 10 → (leb 48 (digit d) && leb (digit d) 57) ≡ true
-digit-is d h = rw (le-leb 48 (48 + d) (omega arith), le-leb (48 + d) 57 (omega arith))
+digit-is : (d : ℕ) → d < 10 → isDecimal (digit d) ≡ true
+unfolding isDecimal
+digit-is d h = rw (le-leb 48 (48 + d) (omega arith), le-leb (48 + d) NINE (omega arith))
 
 pub decimal-digits : DecimalDigits
 unfolding all

@@ -1,7 +1,7 @@
 -- What digits stand for, and that those of a number stand for it, as statements. A term of each stands in proofs/.
 use Prim.Native.Nat.{ℕ, _+_, _-_, _*_, _<_}
 use mathlib.Core.Path.{_≡_}
-use mathlib.Core.Bool.{true, _&&_}
+use mathlib.Core.Bool.{Bool, true, _&&_}
 use mathlib.Core.List.{List, [], _∷_}
 use lib.Dec.{leb}
 use lib.ListN.{getD}
@@ -17,9 +17,17 @@ readOn n (c ∷ rest) = readOn (10 * n + (c - 48)) rest
 abbrev pub DecimalReadsBack : Type 0
 DecimalReadsBack = (n : ℕ) → readOn 0 (decimal n) ≡ n
 
--- each is one of `0` to `9`
+-- `9`
+abbrev pub NINE : ℕ
+NINE = 57
+
+-- is a character one of `0` to `9`?
+unfoldable pub isDecimal : ℕ → Bool
+isDecimal c = leb 48 c && leb c NINE
+
+-- each of them is
 abbrev pub DecimalDigits : Type 0
-DecimalDigits = (n : ℕ) → all (λ c. leb 48 c && leb c 57) (decimal n) ≡ true
+DecimalDigits = (n : ℕ) → all isDecimal (decimal n) ≡ true
 
 -- and there is none in front that need not be: 0 has one, `0`, and the first digit of any other number is no zero
 abbrev pub DecimalShort : Type 0
