@@ -6,8 +6,15 @@ pub mod ReadersRefuse
 pub mod TwoReaders
 pub mod Trailing
 pub mod OneAnswer
+pub mod Runs
 pub mod Calls
 pub mod History
 pub mod Distinct
 pub mod Reached
 pub mod Order
+pub mod Demand1
+pub mod Requests
+pub mod Servers
+pub mod Demand3
+pub mod Rules
+pub mod Useless

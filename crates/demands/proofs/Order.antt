@@ -13,14 +13,15 @@ use Rattle.aps_binding.specs.declared.binding.Binding.{Binding}
 use Rattle.aps_binding_table.specs.declared.binding.BindingTable.{BindingTable}
 use Rattle.aps_binding_table.proofs.Good.{Good, empty-good, held-length}
 use Rattle.aps_binding_table.proofs.Holds.{not-same, last-keeps, last-held, last-within, holds-other, length-without}
-use Rattle.demands.specs.Calls.{Call, next, after}
+use Rattle.demands.specs.Calls.{Call, next}
 use Rattle.demands.specs.Reached.{distinct}
 use Rattle.demands.specs.Order.{Agree, equal, room, kept, SuccessKept, Ordered, Order}
+use Rattle.demands.proofs.Runs.{left-both}
 use Rattle.demands.proofs.Calls.{stepped, Stepped, again, full, added, removed, absent, step-cases, told-step, good-next, next-limit, next-held}
 use Rattle.demands.proofs.Distinct.{distinct-last, distinct-without, holds-gone}
 
 pub success-kept : SuccessKept
-success-kept o (equal _) = refl
+success-kept c o (equal _ _) = refl
 
 -- ---- one step
 
@@ -32,8 +33,8 @@ record Ahead (m n : ℕ) (xs ys : List Binding) : Type 0 where
   spare : length ys + m ≤ length xs + n
 
 -- so it is after a step, and the statuses agree
-abbrev Next : ℕ → ℕ → Step → Step → Type 0
-Next m n s l = Ahead m n (s .entries) (l .entries) × Agree (answer (s .status)) (answer (l .status))
+abbrev Next : ℕ → ℕ → Call → Step → Step → Type 0
+Next m n c s l = Ahead m n (s .entries) (l .entries) × Agree c (answer (s .status)) (answer (l .status))
 
 module _ {m n : ℕ} {xs ys : List Binding} (a : Ahead m n xs ys) where
   -- none that is held in the first run is missing in the second
@@ -84,35 +85,37 @@ module _ {m n : ℕ} {xs ys : List Binding} (a : Ahead m n xs ys) where
         spare = omega (arith, length-without b xs hx, length-without b ys hy);
       }
 
-  both-next : {c : Call} {s l : Step} → length xs ≤ m → length ys ≤ n → Stepped m xs c s → Stepped n ys c l → Next m n s l
-  both-next small large (again b hx) (again _ hy) = (a, equal _)
+  both-next : {c : Call} {s l : Step} → length xs ≤ m → length ys ≤ n → Stepped m xs c s → Stepped n ys c l → Next m n c s l
+  both-next small large (again b hx) (again _ hy) = (a, equal _ _)
   both-next small large (again b hx) (full _ hy k) = missing b hx hy
   both-next small large (again b hx) (added _ hy k) = missing b hx hy
-  both-next small large (full b hx e) (again _ hy) = (a, room)
-  both-next small large (full b hx e) (full _ hy k) = (a, equal _)
-  both-next small large (full b hx e) (added _ hy k) = (second-added b e large k, room)
-  both-next small large (added b hx e) (again _ hy) = (first-added b hx hy, equal _)
+  both-next small large (full b hx e) (again _ hy) = (a, room b)
+  both-next small large (full b hx e) (full _ hy k) = (a, equal _ _)
+  both-next small large (full b hx e) (added _ hy k) = (second-added b e large k, room b)
+  both-next small large (added b hx e) (again _ hy) = (first-added b hx hy, equal _ _)
   both-next small large (added b hx e) (full _ hy k) = absurd (omega arith)
-  both-next small large (added b hx e) (added _ hy k) = (both-added b hx, equal _)
-  both-next small large (removed b hx) (removed _ hy) = (both-removed b hx hy, equal _)
+  both-next small large (added b hx e) (added _ hy k) = (both-added b hx, equal _ _)
+  both-next small large (removed b hx) (removed _ hy) = (both-removed b hx hy, equal _ _)
   both-next small large (removed b hx) (absent _ hy) = missing b hx hy
-  both-next small large (absent b hx) (removed _ hy) = (second-removed b hx hy, kept)
-  both-next small large (absent b hx) (absent _ hy) = (a, equal _)
+  both-next small large (absent b hx) (removed _ hy) = (second-removed b hx hy, kept b)
+  both-next small large (absent b hx) (absent _ hy) = (a, equal _ _)
 
 -- ---- tables
 
-record Behind (t u : BindingTable) : Type 0 where
-  less : Good t
-  more : Good u
+-- between two tables: both are good, and so it is between the entries that they hold
+pub record Behind (t u : BindingTable) : Type 0 where
+  pub less : Good t
+  pub more : Good u
   ahead : Ahead (t .limit) (u .limit) (held t) (held u)
 
-stepped-next : {t u : BindingTable} (c : Call) → Behind t u → Next (t .limit) (u .limit) (stepped t c) (stepped u c)
+stepped-next : {t u : BindingTable} (c : Call) → Behind t u → Next (t .limit) (u .limit) c (stepped t c) (stepped u c)
 stepped-next {t} {u} c r =
     let small : length (held t) ≤ t .limit = omega (arith, held-length (r .less)) in
     let large : length (held u) ≤ u .limit = omega (arith, held-length (r .more)) in
     both-next (r .ahead) small large (step-cases t c) (step-cases u c)
 
-behind-next : {t u : BindingTable} (c : Call) → Behind t u → Behind (next t c) (next u c)
+-- so it is after a call
+pub behind-next : {t u : BindingTable} (c : Call) → Behind t u → Behind (next t c) (next u c)
 behind-next c r =
     record {
       less = good-next c (r .less);
@@ -120,25 +123,22 @@ behind-next c r =
       ahead = rw (next-held c (r .less), next-held c (r .more), next-limit c (r .less), next-limit c (r .more)) (stepped-next c r .0);
     }
 
-behind-after : {t u : BindingTable} (cs : List Call) → Behind t u → Behind (after t cs) (after u cs)
-unfolding after
-behind-after [] r = r
-behind-after (c ∷ cs) r = behind-after cs (behind-next c r)
-
-behind-ordered : {t u : BindingTable} → Behind t u → Ordered t u
+pub behind-ordered : {t u : BindingTable} → Behind t u → Ordered t u
 behind-ordered r =
     record {
       entries = r .ahead .sub;
       statuses = λ c. rw (told-step c (r .less), told-step c (r .more)) (stepped-next c r .1);
     }
 
-pub order : Order
+-- and of two empty tables
+pub behind-empty : (less more : ℕ) → less ≤ more → more ≤ 32 → Behind (emptyTable less) (emptyTable more)
 unfolding emptyTable held distinct
-order less more h l cs =
-    let start : Behind (emptyTable less) (emptyTable more) =
+behind-empty less more h l =
     record {
       less = empty-good less (omega arith);
       more = empty-good more (omega arith);
       ahead = record { sub = λ c e. e; once = refl; spare = omega arith };
-    } in
-    behind-ordered (behind-after cs start)
+    }
+
+pub order : Order
+order less more h l cs = behind-ordered (left-both next Behind (λ t u c b. behind-next c b) cs (behind-empty less more h l))

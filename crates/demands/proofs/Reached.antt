@@ -16,8 +16,10 @@ use Rattle.aps_binding_table.specs.declared.binding.BindingTable.{BindingTable}
 use Rattle.aps_binding_table.proofs.Good.{Good, empty-good, good-table, good-tested, count-fits}
 use Rattle.aps_binding_table.proofs.Placed.{placed-zeros}
 use Rattle.aps_binding_table.proofs.Holds.{all-without}
+use Rattle.demands.specs.Runs.{left}
 use Rattle.demands.specs.Calls.{Call, next, after}
 use Rattle.demands.specs.Reached.{Built, group, device, BuiltCall, AllBuilt, distinct, Sound, Reached, SoundFromEmpty, ReachedFromEmpty}
+use Rattle.demands.proofs.Runs.{left-keeps}
 use Rattle.demands.proofs.Calls.{stepped, Stepped, again, full, added, removed, absent, step-cases, next-placed, next-held, stepped-fits, good-next}
 use Rattle.demands.proofs.Distinct.{distinct-last, distinct-without}
 
@@ -50,11 +52,6 @@ sound-next {t} c r =
       good = good-tested n;
     }
 
-sound-after : {t : BindingTable} (cs : List Call) → Sound t → Sound (after t cs)
-unfolding after
-sound-after [] r = r
-sound-after (c ∷ cs) r = sound-after cs (sound-next c r)
-
 empty-sound : (limit : ℕ) → limit ≤ 32 → Sound (emptyTable limit)
 unfolding emptyTable held distinct
 empty-sound limit h =
@@ -62,7 +59,7 @@ empty-sound limit h =
     record { once = refl; within = g .within; zeros = refl; places = g .places; good = good-tested g }
 
 pub sound-from-empty : SoundFromEmpty
-sound-from-empty limit h cs = sound-after cs (empty-sound limit h)
+sound-from-empty limit h cs = left-keeps next Sound (λ t c s. sound-next c s) cs (empty-sound limit h)
 
 -- ---- formed entries
 
@@ -90,7 +87,7 @@ reached-next {t} c built r =
     record { sound = sound-next c (r .sound); allFormed = rw (next-held c g) (formed-step (step-cases t c) built (r .allFormed)) }
 
 reached-after : {t : BindingTable} (cs : List Call) → AllBuilt cs → Reached t → Reached (after t cs)
-unfolding after
+unfolding left
 reached-after [] built r = r
 reached-after (c ∷ cs) (first, rest) r = reached-after cs rest (reached-next c first r)
 

@@ -55,7 +55,7 @@ shorter-where m n bytes true over = rw (← or-assoc, shorter-behind)
 shorter-where m n bytes false over = refl
 
 -- a byte that is read as a number
-byte-read : (bytes : List ℕ) (at : ℕ) → numberAt 1 bytes at ≡ byteOf bytes at
+pub byte-read : (bytes : List ℕ) (at : ℕ) → numberAt 1 bytes at ≡ byteOf bytes at
 byte-read bytes at = sym (read-byte bytes at .told)
 
 -- ---- outcomes
@@ -69,7 +69,7 @@ module _ {A : Type 0} where
 
   module _ {B : Type 0} where
     -- seen through f, it is the same refusal
-    refuse-mapped : (f : A → B) (o : Outcome A) → refusalOf (mapped f o) ≡ refusalOf o
+    pub refuse-mapped : (f : A → B) (o : Outcome A) → refusalOf (mapped f o) ≡ refusalOf o
     unfolding refusalOf mapped
     refuse-mapped f (answer a) = refl
     refuse-mapped f (refusal n) = refl
@@ -115,7 +115,7 @@ module _ {A : Type 0} where
   refuse-needing n bytes a = rw (then-answer, or-false) at (refuse-next n bytes a answer false (λ _. refl))
 
   -- a frame of fields
-  refuse-parsed : (ws : List ℕ) (make : (ℕ → ℕ) → A) (bytes : List ℕ) → refusalOf (parsed ws make bytes) ≡ malformedIf (shorter bytes (size ws))
+  pub refuse-parsed : (ws : List ℕ) (make : (ℕ → ℕ) → A) (bytes : List ℕ) → refusalOf (parsed ws make bytes) ≡ malformedIf (shorter bytes (size ws))
   unfolding parsed
   refuse-parsed ws make bytes = refuse-needing (size ws) bytes _
 

@@ -15,7 +15,8 @@ use Rattle.aps_binding.specs.declared.binding.Binding.{Binding}
 use Rattle.aps_binding_table.specs.declared.binding.BindingTable.{BindingTable}
 use Rattle.aps_binding_table.specs.declared.binding.LinkStatus.the-variants as link
 use Rattle.demands.specs.Calls.{Call, bind, unbind, next, after}
-use Rattle.demands.specs.History.{adds, removes, howMany}
+use Rattle.demands.specs.Runs.{howMany}
+use Rattle.demands.specs.History.{adds, removes}
 use Rattle.lines.specs.Chunks.{joined}
 use Rattle.demands.specs.Cases.{Case, counting}
 
@@ -158,8 +159,8 @@ unfoldable pub Counted : Case
 Counted =
     record {
       says =
-          answer (howMany adds (emptyTable 1) exchanged ∷ howMany removes (emptyTable 1) exchanged ∷ [])
-          ∷ answer (howMany adds (emptyTable 2) exchanged ∷ howMany removes (emptyTable 2) exchanged ∷ [])
+          answer (howMany next adds (emptyTable 1) exchanged ∷ howMany next removes (emptyTable 1) exchanged ∷ [])
+          ∷ answer (howMany next adds (emptyTable 2) exchanged ∷ howMany next removes (emptyTable 2) exchanged ∷ [])
           ∷ [];
       expected = answer (2 ∷ 1 ∷ []) ∷ answer (3 ∷ 2 ∷ []) ∷ [];
     }

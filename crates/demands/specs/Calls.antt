@@ -1,11 +1,12 @@
 -- Sequences of calls of the binding table: what each comes to, and the table that they leave.
 use Prim.Native.Nat.{ℕ}
-use mathlib.Core.List.{List, [], _∷_}
+use mathlib.Core.List.{List}
 use Rattle.zigbee_types.specs.Outcome.{Outcome, mapped}
 use Rattle.aps_binding_table.specs.Held.{Step}
 use Rattle.aps_binding_table.specs.Table.{createBindingLink, removeBindingLink, tableLeft}
 use Rattle.aps_binding.specs.declared.binding.Binding.{Binding}
 use Rattle.aps_binding_table.specs.declared.binding.BindingTable.{BindingTable}
+use Rattle.demands.specs.Runs.{left}
 
 -- a call of `create_binding_link` or of `remove_binding_link`, with its entry
 pub data Call : Type 0 where
@@ -26,6 +27,5 @@ unfoldable pub next : BindingTable → Call → BindingTable
 next t c = tableLeft t (called t c)
 
 -- the table after a sequence of calls, one after the other
-unfoldable pub after : BindingTable → List Call → BindingTable
-after t [] = t
-after t (c ∷ cs) = after (next t c) cs
+abbrev pub after : BindingTable → List Call → BindingTable
+after = left next

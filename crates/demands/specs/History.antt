@@ -4,14 +4,14 @@
 use Prim.Native.Nat.{ℕ, _+_}
 use mathlib.Core.Path.{_≡_}
 use mathlib.Core.Bool.{Bool, false, _&&_, not}
-use mathlib.Core.List.{List, [], _∷_}
+use mathlib.Core.List.{List}
 use lib.Dec.{eqb}
-use Rattle.zigbee_types.specs.Bytes.{bit}
 use Rattle.zigbee_types.specs.Outcome.{Outcome, answer, refusal}
 use Rattle.zigbee_types.specs.Statuses.{SUCCESS}
 use Rattle.aps_binding_table.specs.Held.{holds}
 use Rattle.aps_binding_table.specs.Table.{emptyTable, held}
 use Rattle.aps_binding_table.specs.declared.binding.BindingTable.{BindingTable}
+use Rattle.demands.specs.Runs.{howMany}
 use Rattle.demands.specs.Calls.{Call, bind, unbind, told, next, after}
 
 -- is the status SUCCESS?
@@ -29,13 +29,8 @@ unfoldable pub removes : BindingTable → Call → Bool
 removes t (bind b) = false
 removes t (unbind b) = succeeded (told t (unbind b))
 
--- how many calls of a sequence pass a test, each on the table that it finds
-unfoldable pub howMany : (BindingTable → Call → Bool) → BindingTable → List Call → ℕ
-howMany test t [] = 0
-howMany test t (c ∷ cs) = bit (test t c) + howMany test (next t c) cs
-
 -- whatever the limit, the count and the unbinds that removed are together the binds that added
 abbrev pub History : Type 0
 History =
     (limit : ℕ) (cs : List Call)
-    → after (emptyTable limit) cs .count + howMany removes (emptyTable limit) cs ≡ howMany adds (emptyTable limit) cs
+    → after (emptyTable limit) cs .count + howMany next removes (emptyTable limit) cs ≡ howMany next adds (emptyTable limit) cs

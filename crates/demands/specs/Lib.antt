@@ -7,6 +7,7 @@ pub mod RequestCases
 pub mod ReplyCases
 pub mod DeviceCases
 pub mod MatchingCases
+pub mod Runs
 pub mod Calls
 pub mod History
 pub mod BindingCases
@@ -21,3 +22,8 @@ pub mod Trailing
 pub mod OneAnswer
 pub mod Reached
 pub mod Order
+pub mod Demand1
+pub mod Servers
+pub mod Demand3
+pub mod Rules
+pub mod Useless

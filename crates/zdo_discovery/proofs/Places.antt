@@ -89,7 +89,7 @@ begun-whole xs {before} {after} {n} b h =
 
 module _ (w : Wanted) (p : Pools) (d : DeviceDescriptorConfig) (g : goodDevice p d ≡ true) where
   -- no more endpoints match than there are records
-  matches-few : length (matchList w (resolvedIn p (used d))) ≤ 32
+  pub matches-few : length (matchList w (resolvedIn p (used d))) ≤ 32
   unfolding matchList resolvedIn used
   matches-few =
       let some = filter-few (matches w) (map (endpointOf p) (take (d .«endpoint_count») (d .endpoints))) in
