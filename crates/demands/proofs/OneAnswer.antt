@@ -50,7 +50,7 @@ use Rattle.zdo_dispatcher.specs.Answers.{Told, replied, leaving, responseSays}
 use Rattle.zdo_dispatcher.specs.declared.dispatcher.Response.{Response}
 use Rattle.zdo_dispatcher.specs.declared.dispatcher.Response.the-variants as response
 use Rattle.zdo_dispatcher.proofs.OneDispatched.{one-dispatched}
-use Rattle.demands.specs.OneAnswer.{Determines, OneAnswer}
+use Rattle.demands.specs.OneAnswer.{Determines, OneSaid, OneAnswer}
 
 one-written : Determines writtenSays
 unfolding writtenSays
@@ -102,6 +102,9 @@ unfolding responseSays
 one-response =
     determined _ responseOf response.Refused
     (elim [ response.Reply cluster n ↦ refl | response.Leave q ↦ refl | response.Refused why ↦ refused-back response.Refused why ])
+
+pub one-said : OneSaid
+one-said A B says determines o r s p q = determines r s (p ∙ sym q)
 
 pub one-answer : OneAnswer
 unfolding listsSays nodeSays powerSays simpleSays nwkAddrReqSays ieeeAddrReqSays addrOfInterestReqSays addrOfInterestSays simpleDescReqSays matchDescReqSays bindReqSays mgmtLeaveReqSays headerSays nodeDescRspSays nodeReplySays powerReplySays addrReplySays statusReplySays listReplySays matchReplySays simpleReplySays

@@ -40,7 +40,7 @@ use Rattle.demands.specs.Rules.{Isolated, Isolation, succeeded, heldOf, 
 use Rattle.demands.proofs.Runs.{Balanced, left-balanced}
 use Rattle.demands.proofs.Calls.{stepped, told-step}
 use Rattle.demands.proofs.History.{turn}
-use Rattle.demands.proofs.Demand1.{matchLists, wanted-read, match-read}
+use Rattle.demands.proofs.Demand1.{match-read, wanted-read}
 use Rattle.demands.proofs.Requests.{Plain, replies, leaves, keeping, plainBytes, clusterOf, entryOf, linked, Kind, idle, call, kind, bad-refused}
 use Rattle.demands.proofs.Servers.{shown, seen-shown}
 use Rattle.demands.proofs.Demand3.{kept-table, call-table, call-shown}

@@ -27,8 +27,12 @@ use Rattle.zdo_dispatcher.specs.declared.dispatcher.Responded.{Responded}
 abbrev pub Determines : {A B : Type 0} → (A → B) → Type 0
 Determines {A} says = (a b : A) → says a ≡ says b → a ≡ b
 
--- so it is with each enum by which a public function answers or refuses (that of a read line is in `OneLineRead`), and with those that
--- hold a record or a number, or none; a writer's contract determines its answer and the buffer, so does matching's, a bind's or an
+-- so a contract that gives what an answer says, as every parser's and reader's does, leaves one answer
+abbrev pub OneSaid : Type 1
+OneSaid = (A B : Type 0) (says : A → B) → Determines says → (o : B) (r s : A) → says r ≡ o → says s ≡ o → r ≡ s
+
+-- each enum by which a public function answers or refuses (that of a read line is in `OneLineRead`), or that holds a record or a number
+-- or none, is determined so; a writer's contract determines its answer and the buffer, so does matching's, a bind's or an
 -- unbind's its answer and its table, and the dispatcher's all three
 pub record OneAnswer : Type 0 where
   pub written : Determines writtenSays
