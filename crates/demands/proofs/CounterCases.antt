@@ -24,13 +24,14 @@ use Rattle.zdo_matching.specs.Answers.{matchingSays}
 use Rattle.zdo_device_rsp.specs.TableReplies.{numbers, activeRspOf, activeRecords, activeEpRsp, simpleRspOf, simpleDescRsp}
 use Rattle.zdo_discovery.specs.Host.{asking, goodHost, resolved}
 use Rattle.zdo_discovery.specs.Discovery.{ourAddress, onNwkAddr, onIeeeAddr, notOurs, about, onNode, onPower, onSimple, onActive, onMatch, discovery, discovered}
-use Rattle.zdo_dispatcher.specs.Answers.{stepOf, sourceStatus, linkStep, linkAnswer, onLink, byCluster, answered, tableAfter, bufferAfter, toldOf, run, runTable}
+use Rattle.zdo_dispatcher.specs.Answers.{stepOf, sourceStatus, linkStep, linkAnswer, onLink, byCluster, answered, tableAfter, bufferAfter, toldOf}
 use Rattle.lines.specs.Lines.{begins, linesOf, lineWithin, linesWithin}
 use Rattle.lines.specs.Chunks.{joined}
 use Rattle.hex_lines.specs.Hex.{between, digitValue, isDigit, bytesIn, capital, digitsOf}
 use Rattle.hex_lines.specs.RequestLine.{isRequest, clusterIn, requestIn, hexLine}
 use Rattle.decimal.specs.Decimal.{digitsWithin, decimal}
 use Rattle.answer_lines.specs.Session.{textOf, heard, unheard, said, spoken, countText, closing, session, answers}
+use Rattle.demands.specs.Cases.{run}
 use Rattle.demands.specs.CounterCases.{K1, K2, K3, K4, K5, K6, K7, K8, K9, K10, K11}
 use Rattle.demands.specs.ProgramCases.{Sample, Typed, Long, Ending, Full}
 use Rattle.demands.specs.DispatchCases.{NwkAddr, IeeeAddr, Elsewhere, Ours, Sequence, HostTables, Linking, Shifting, RefusalOrder, Left, Telling}
@@ -46,5 +47,5 @@ use Rattle.demands.specs.ReaderCases.{ReadDescriptors, ReadLists, ReadSi
 use Rattle.demands.specs.Claim.{cases, CounterCases}
 
 pub counter-cases : CounterCases
-unfolding any all filter find option andThen mapped needing fitted written begunLength begun le number numberAt bitAt bit laid size fieldsAt parsed counted behind entriesAt listsIn named logicalType nodeByte0 nodeByte1 nodeDescriptor nodeWidths nodeDescriptorIn currentPowerMode powerSource currentPowerSourceLevel sourceBitmap powerByte0 powerByte1 powerDescriptor powerWidths common supports usable powerDescriptorIn listed simpleHeader simpleDescriptor clusterCount simpleWritten simpleWidths simpleOf simpleDescriptorIn zeroBinding key alike same formed holds without boundAs bound unboundAs unbound emptyTable goodTable held placed onGood createBindingLink removeBindingLink tableLeft nwkAddrReqIn ieeeAddrReqIn addrOfInterestWidths addrOfInterestReqIn addrOfInterestIn simpleDescReqIn matchWidths matchReqOf matchDescReqIn bindWidths bindReqOf groupIn deviceIn destinationIn bindReqIn bindingTo bindingOf optionIeee mgmtLeaveReqIn addrOfInterestFields nodeDescReq header nodeDescRsp powerDescRsp descriptorRspError endpointList listRsp emptyRsp matchErrorFields matchDescRspError describedRsp addrHeader addrRspSingle addrRspExtended addrRsp statusFields statusRsp headerWidths headerIn descriptorReplyIn nodeReplyIn powerReplyIn serverMaskIn nodeDescRspIn stackRevisionOf listBehind listReplyIn matchErrorWidths matchReplyInAs matchReplyIn shifted shiftedFields simpleWithin simpleReplyIn associatedIn addrWidths addrReplyIn statusWidths statusReplyIn used endpointRecord endpointSays supportsEndpoint recordFits goodSizes goodRecords goodDevice endpointOf resolvedIn clustersOf endpointClusters wanted profileMatches shared matches matchList goodPlaces matchedIn matchedRecords matchingEndpoints matchingSays numbers activeRspOf activeRecords activeEpRsp simpleRspOf simpleDescRsp asking goodHost resolved ourAddress onNwkAddr onIeeeAddr notOurs about onNode onPower onSimple onActive onMatch discovery discovered stepOf sourceStatus linkStep linkAnswer onLink byCluster answered tableAfter bufferAfter toldOf run runTable K1 K2 K3 K4 K5 K6 K7 K8 K9 K10 K11 joined begins linesOf lineWithin linesWithin between digitValue isDigit bytesIn capital digitsOf isRequest clusterIn requestIn hexLine digitsWithin decimal textOf heard unheard said spoken countText closing session answers Sample Typed Long Ending Full NwkAddr IeeeAddr Elsewhere Ours Sequence HostTables Linking Shifting RefusalOrder Left Telling AddrPayloads InterestPayloads MatchPayloads BindPayloads RequestedEntries LeavePayloads DescriptorReplies ListReplies SimpleReplies AddressReplies StatusReplies Matching Repeated Records Supported Numbers NoRecords LongList Parts TableChecks RecordChecks Crowded MatchingAnswers Profiles BothLists PlaceChecks Buffers called next left linkSays Equality Formed LinkStatuses Links LeftTables Counted told succeeded adds removes howMany ReadDescriptors ReadLists ReadSimple ReadAddresses DefaultNode ReservedNumbers NamedNumbers SourceSets FlagBits StatusCodes cases CounterCases
+unfolding any all filter find option andThen mapped needing fitted written begunLength begun le number numberAt bitAt bit laid size fieldsAt parsed counted behind entriesAt listsIn named logicalType nodeByte0 nodeByte1 nodeDescriptor nodeWidths nodeDescriptorIn currentPowerMode powerSource currentPowerSourceLevel sourceBitmap powerByte0 powerByte1 powerDescriptor powerWidths common supports usable powerDescriptorIn listed simpleHeader simpleDescriptor clusterCount simpleWritten simpleWidths simpleOf simpleDescriptorIn zeroBinding key alike same formed holds without boundAs bound unboundAs unbound emptyTable goodTable held placed onGood createBindingLink removeBindingLink tableLeft nwkAddrReqIn ieeeAddrReqIn addrOfInterestWidths addrOfInterestReqIn addrOfInterestIn simpleDescReqIn matchWidths matchReqOf matchDescReqIn bindWidths bindReqOf groupIn deviceIn destinationIn bindReqIn bindingTo bindingOf optionIeee mgmtLeaveReqIn addrOfInterestFields nodeDescReq header nodeDescRsp powerDescRsp descriptorRspError endpointList listRsp emptyRsp matchErrorFields matchDescRspError describedRsp addrHeader addrRspSingle addrRspExtended addrRsp statusFields statusRsp headerWidths headerIn descriptorReplyIn nodeReplyIn powerReplyIn serverMaskIn nodeDescRspIn stackRevisionOf listBehind listReplyIn matchErrorWidths matchReplyInAs matchReplyIn shifted shiftedFields simpleWithin simpleReplyIn associatedIn addrWidths addrReplyIn statusWidths statusReplyIn used endpointRecord endpointSays supportsEndpoint recordFits goodSizes goodRecords goodDevice endpointOf resolvedIn clustersOf endpointClusters wanted profileMatches shared matches matchList goodPlaces matchedIn matchedRecords matchingEndpoints matchingSays numbers activeRspOf activeRecords activeEpRsp simpleRspOf simpleDescRsp asking goodHost resolved ourAddress onNwkAddr onIeeeAddr notOurs about onNode onPower onSimple onActive onMatch discovery discovered stepOf sourceStatus linkStep linkAnswer onLink byCluster answered tableAfter bufferAfter toldOf run K1 K2 K3 K4 K5 K6 K7 K8 K9 K10 K11 joined begins linesOf lineWithin linesWithin between digitValue isDigit bytesIn capital digitsOf isRequest clusterIn requestIn hexLine digitsWithin decimal textOf heard unheard said spoken countText closing session answers Sample Typed Long Ending Full NwkAddr IeeeAddr Elsewhere Ours Sequence HostTables Linking Shifting RefusalOrder Left Telling AddrPayloads InterestPayloads MatchPayloads BindPayloads RequestedEntries LeavePayloads DescriptorReplies ListReplies SimpleReplies AddressReplies StatusReplies Matching Repeated Records Supported Numbers NoRecords LongList Parts TableChecks RecordChecks Crowded MatchingAnswers Profiles BothLists PlaceChecks Buffers called next left linkSays Equality Formed LinkStatuses Links LeftTables Counted told succeeded adds removes howMany ReadDescriptors ReadLists ReadSimple ReadAddresses DefaultNode ReservedNumbers NamedNumbers SourceSets FlagBits StatusCodes cases CounterCases
 counter-cases = refl

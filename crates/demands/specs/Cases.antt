@@ -19,8 +19,9 @@ use Rattle.aps_binding_table.specs.declared.binding.BindingTable.{BindingTable}
 use Rattle.zdo_requests.specs.Requests.{matchDescReqIn}
 use Rattle.zdo_matching.specs.Matching.{matchingEndpoints}
 use Rattle.zdo_discovery.specs.Host.{Host, Asked}
-use Rattle.zdo_dispatcher.specs.Answers.{Answer, reply, leave, answered}
+use Rattle.zdo_dispatcher.specs.Answers.{Answer, reply, leave, answered, tableAfter}
 use Rattle.our_device.specs.OurDevice.{ourPools, ourDevice, ours}
+use Rattle.demands.specs.Runs.{left}
 
 -- what the definitions say; and what document 01 says, or where it is silent the Rust or docs/DECISIONS.md, as literals
 pub record Case : Type 0 where
@@ -64,6 +65,17 @@ tried = triedOn ours
 -- what it replies with an empty table and a buffer of 128 bytes
 abbrev pub replies : ℕ → List ℕ → Outcome (List ℕ)
 replies cluster payload = tried (emptyTable 32) cluster payload 128
+
+-- what a host comes to for requests, one after the other on one table
+unfoldable pub run : Host → BindingTable → List Asked → List (Outcome Answer)
+run h t [] = []
+run h t (a ∷ rest) =
+    let o = answered h t a in
+    o ∷ run h (tableAfter t o) rest
+
+-- the table that they leave
+abbrev pub runTable : Host → BindingTable → List Asked → BindingTable
+runTable h = left (λ t a. tableAfter t (answered h t a))
 
 -- a binding table of zeros, with a limit and a count
 abbrev pub counting : ℕ → ℕ → BindingTable

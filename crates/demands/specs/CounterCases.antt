@@ -13,10 +13,10 @@ use Rattle.zdo_replies.specs.Replies.{nodeDescRsp}
 use Rattle.zdo_readers.specs.Readers.{nodeDescRspIn, stackRevisionOf}
 use Rattle.zdo_device_rsp.specs.TableReplies.{simpleDescRsp}
 use Rattle.zdo_discovery.specs.Host.{Asked}
-use Rattle.zdo_dispatcher.specs.Answers.{answered, run}
+use Rattle.zdo_dispatcher.specs.Answers.{answered}
 use Rattle.our_device.specs.OurDevice.{ourNode, ourPower, ourPools, ourDevice, ours}
 use Rattle.demands.specs.Devices.{endpointAt, deviceOf}
-use Rattle.demands.specs.Cases.{Case, asked, found, heard, statusOf, powerShown, bindA, bindB, bindC}
+use Rattle.demands.specs.Cases.{Case, asked, found, heard, statusOf, powerShown, bindA, bindB, bindC, run}
 
 -- K1: a node reply with room, and in a buffer of 16 bytes
 unfoldable pub K1 : Case

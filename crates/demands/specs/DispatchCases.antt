@@ -11,11 +11,11 @@ use Rattle.aps_binding.specs.Entry.{key}
 use Rattle.aps_binding_table.specs.Table.{emptyTable}
 use Rattle.zdo_requests.specs.Requests.{nodeDescReq}
 use Rattle.zdo_discovery.specs.Host.{Host, Asked, asking}
-use Rattle.zdo_dispatcher.specs.Answers.{Told, replied, leaving, toldOf, answered, bufferAfter, run, runTable}
+use Rattle.zdo_dispatcher.specs.Answers.{Told, replied, leaving, toldOf, answered, bufferAfter}
 use Rattle.lines.specs.Chunks.{joined}
 use Rattle.our_device.specs.OurDevice.{ourPower, ourPools, ourDevice, ours, endpoint1, endpoint2}
 use Rattle.demands.specs.Devices.{endpointAt, deviceOf, hostOf}
-use Rattle.demands.specs.Cases.{Case, asked, heard, statusOf, bindHead, bindA, bindB, bindC, tried, replies, counting, nodeOf, triedOn}
+use Rattle.demands.specs.Cases.{Case, asked, heard, statusOf, bindHead, bindA, bindB, bindC, tried, replies, counting, nodeOf, triedOn, run, runTable}
 
 -- a NWK_addr_req for our IEEE address, of a type
 abbrev pub nwkAddr : ℕ → List ℕ

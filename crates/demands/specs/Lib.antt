@@ -1,3 +1,4 @@
+pub mod Runs
 pub mod Devices
 pub mod Cases
 pub mod CounterCases
@@ -7,7 +8,6 @@ pub mod RequestCases
 pub mod ReplyCases
 pub mod DeviceCases
 pub mod MatchingCases
-pub mod Runs
 pub mod Calls
 pub mod History
 pub mod BindingCases

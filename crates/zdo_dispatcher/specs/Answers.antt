@@ -2,7 +2,7 @@
 use Prim.Native.Nat.{ℕ}
 use mathlib.Core.Path.{_≡_}
 use mathlib.Core.Bool.{_&&_, cond}
-use mathlib.Core.List.{List, [], _∷_}
+use mathlib.Core.List.{List}
 use lib.Dec.{eqb}
 use lib.ListN.{length}
 use Rattle.zigbee_types.specs.Outcome.{Outcome, answer, refusal, andThen, mapped, fitted, written}
@@ -108,17 +108,3 @@ pub record Dispatched (o : Outcome Answer) (t : BindingTable) (before : List ℕ
   pub said : told ≡ mapped toldOf o
   pub table : u ≡ tableAfter t o
   pub buffer : after ≡ bufferAfter before o
-
--- ---- runs
-
--- what a run of requests comes to, one after the other on one table
-unfoldable pub run : Host → BindingTable → List Asked → List (Outcome Answer)
-run h t [] = []
-run h t (a ∷ rest) =
-    let o = answered h t a in
-    o ∷ run h (tableAfter t o) rest
-
--- the table that a run leaves
-unfoldable pub runTable : Host → BindingTable → List Asked → BindingTable
-runTable h t [] = t
-runTable h t (a ∷ rest) = runTable h (tableAfter t (answered h t a)) rest
