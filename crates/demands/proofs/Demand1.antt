@@ -1,5 +1,5 @@
--- Each request gets a reply, is a leave request, or is refused by one of the five numbers, and by each exactly for document 01's reason.
--- Assumes nothing.
+-- Each request comes to a reply of the length that its buffer must have, to a leave, or to a refusal by one of the five numbers, and to
+-- each exactly for document 01's reason; a refusal keeps table and buffer. Assumes nothing.
 use Prim.Native.Nat.{ℕ, _+_, _*_, _≤_}
 use native.Mathlib.Omega.{arith}
 use mathlib.Core.Path.{_≡_, refl, sym, ap, _∙_}
@@ -9,9 +9,9 @@ use mathlib.Core.Option.{Option, none, some}
 use lib.Dec.{eqb, leb, ltb}
 use lib.ListN.{length, drop, length-take, length-drop, length-map}
 use lib.Seq.{length-take-le}
-use borrow.Author.Tests.{eqb-true, eq-eqb, leb-true, le-leb, lt-leb, ltb-true, ltb-false, le-ltb}
+use borrow.Author.Tests.{eqb-true, eqb-false, eq-eqb, leb-true, le-leb, lt-leb, ltb-true, ltb-false, le-ltb}
 use Rattle.zigbee_types.specs.Outcome.{Outcome, answer, refusal, andThen, mapped, needing, fitted}
-use Rattle.zigbee_types.specs.Lists.{part, any, all, filter, option}
+use Rattle.zigbee_types.specs.Lists.{part, any, all, option}
 use Rattle.zigbee_types.specs.Layout.{size, fieldsAt, fieldOf, parsed, counted, behind, entriesAt, listsIn}
 use Rattle.zigbee_types.specs.Statuses.{INV-REQUESTTYPE, NOT-ACTIVE}
 use Rattle.zigbee_types.specs.declared.ClusterLists.{ClusterLists}
@@ -21,7 +21,7 @@ use Rattle.zigbee_types.proofs.Outcomes.{refused}
 use Rattle.simple_descriptor.specs.SimpleDescriptor.{Endpoint, clusterCount, simpleWritten}
 use Rattle.aps_binding_table.specs.Table.{goodTable}
 use Rattle.aps_binding_table.specs.declared.binding.BindingTable.{BindingTable}
-use Rattle.zdo_requests.specs.Clusters.{NWK-ADDR-REQ, IEEE-ADDR-REQ, NODE-DESC-REQ, POWER-DESC-REQ, SIMPLE-DESC-REQ, ACTIVE-EP-REQ, MATCH-DESC-REQ, replyCluster}
+use Rattle.zdo_requests.specs.Clusters.{NWK-ADDR-REQ, IEEE-ADDR-REQ, NODE-DESC-REQ, POWER-DESC-REQ, SIMPLE-DESC-REQ, ACTIVE-EP-REQ, MATCH-DESC-REQ, MGMT-LEAVE-REQ, replyCluster}
 use Rattle.zdo_requests.specs.Requests.{nwkAddrReqIn, ieeeAddrReqIn, addrOfInterestWidths, addrOfInterestReqIn, simpleDescReqIn, matchWidths, matchReqOf, matchDescReqIn, groupIn, deviceIn, destinationIn, bindReqIn, mgmtLeaveReqIn}
 use Rattle.zdo_requests.specs.declared.descriptor.MatchDescReq.{MatchDescReq}
 use Rattle.zdo_requests.specs.declared.descriptor.BindReq.{BindReq}
@@ -31,60 +31,99 @@ use Rattle.zdo_device.specs.declared.descriptor.EndpointDescriptor.{EndpointDes
 use Rattle.zdo_device.specs.declared.descriptor.DeviceDescriptorConfig.{DeviceDescriptorConfig}
 use Rattle.zdo_device.proofs.Records.{good-found}
 use Rattle.zdo_device.proofs.Clusters.{inputs-fit, outputs-fit}
-use Rattle.zdo_matching.specs.Matching.{wanted, matches, matchList}
+use Rattle.zdo_matching.specs.Matching.{wanted, matchList}
 use Rattle.zdo_device_rsp.specs.TableReplies.{numbers, activeRspOf, simpleRspOf}
 use Rattle.zdo_discovery.specs.Discovery.{ourAddress, onNwkAddr, onIeeeAddr, about, onNode, onPower, onSimple, onActive, onMatch, discovery, discovered}
 use Rattle.zdo_discovery.specs.Host.{Host, Asked, goodHost, resolved}
 use Rattle.zdo_dispatcher.specs.Answers.{Answer, reply, leave, linkAnswer, onLink, answered, byCluster, tableAfter, bufferAfter}
-use Rattle.demands.specs.ReadersRefuse.{refusalOf, byteOf, shorter}
-use Rattle.demands.specs.Demand1.{runsPast, badDevice, badTable, badTables, among, requestClusters, unknown, forCluster, matchBytes, bindBytes, requestBytes, badMode, malformed, aboutUs, clusters, crowded, lookedFor, matching, addressBytes, simpleBytes, replyBytes, tooLong, Allowed, replies, leaves, refuses, Exactly, EachAnswered}
-use Rattle.demands.proofs.ReadersRefuse.{byte-read, refuse-mapped, refuse-parsed}
+use Rattle.demands.specs.ReadersRefuse.{byteOf, shorter}
+use Rattle.demands.specs.Demand1.{runsPast, badDevice, badTable, badTables, among, requestClusters, unknown, forCluster, matchBytes, bindBytes, bytesNeeded, badMode, malformed, aboutUs, recordAsked, recordClusters, crowded, lookedFor, matched, addressRoom, simpleRoom, roomNeeded, tooLong, Allowed, replies, leaves, refuses, Kept, Exactly, EachAnswered}
+use Rattle.demands.proofs.ReadersRefuse.{byte-read}
 use Rattle.demands.proofs.Frames.{reply-lengths}
 
 -- ---- numbers
 
--- the number of the first reason that holds, of five
-abbrev firstOf : Bool → Bool → Bool → Bool → Bool → Option ℕ
-firstOf one two three four five =
-    cond one (some 1) (cond two (some 2) (cond three (some 3) (cond four (some 4) (cond five (some 5) none))))
+-- what is shown of an answer: of a reply its cluster and its length, of a leave nothing
+data Shown : Type 0 where
+  replied : ℕ → ℕ → Shown
+  left : Shown
 
--- is it this number?
-abbrev is : ℕ → Option ℕ → Bool
-is n = option false (λ k. eqb k n)
+-- so it is of an answer
+unfoldable shown : Answer → Shown
+shown (reply cluster bytes u) = replied cluster (length bytes)
+shown (leave q) = left
 
--- is it, where there is one, from 1 to 5?
-abbrev inRange : Option ℕ → Bool
-inRange = option true (λ k. leb 1 k && leb k 5)
+-- a refusal by the number of the first reason that holds, of five, and else an answer that shows this
+abbrev firstOf : Bool → Bool → Bool → Bool → Bool → Shown → Outcome Shown
+firstOf one two three four five s =
+    cond one (refusal 1) (cond two (refusal 2) (cond three (refusal 3) (cond four (refusal 4) (cond five (refusal 5) (answer s)))))
 
--- it is in range, and each number is that of its reason where no earlier one holds
-first-reasons :
-    (a b c d e : Bool)
-    → (inRange (firstOf a b c d e) ≡ true)
-    × (is 1 (firstOf a b c d e) ≡ a)
-    × (is 2 (firstOf a b c d e) ≡ (not a && b))
-    × (is 3 (firstOf a b c d e) ≡ (not a && not b && c))
-    × (is 4 (firstOf a b c d e) ≡ (not a && not b && not c && d))
-    × (is 5 (firstOf a b c d e) ≡ (not a && not b && not c && not d && e))
-unfolding option
-first-reasons true b c d e = (refl, refl, refl, refl, refl, refl)
-first-reasons false true c d e = (refl, refl, refl, refl, refl, refl)
-first-reasons false false true d e = (refl, refl, refl, refl, refl, refl)
-first-reasons false false false true e = (refl, refl, refl, refl, refl, refl)
-first-reasons false false false false true = (refl, refl, refl, refl, refl, refl)
-first-reasons false false false false false = (refl, refl, refl, refl, refl, refl)
+-- is it a refusal by this number?
+abbrev is : ℕ → Outcome Shown → Bool
+is n (answer s) = false
+is n (refusal k) = eqb k n
 
 -- an outcome is a refusal by a number exactly if that is its number
-exactly : (o : Outcome Answer) (n : ℕ) → Exactly o n (is n (refusalOf o))
-unfolding refusalOf option
-exactly (answer a) n = (λ e. absurd (refused (sym e)), λ e. absurd (false≢true e))
+exactly : (o : Outcome Answer) (n : ℕ) → Exactly o n (is n (mapped shown o))
+unfolding mapped
+exactly (answer x) n = (λ e. absurd (refused (sym e)), λ e. absurd (false≢true e))
 exactly (refusal k) n = (λ e. eq-eqb k n (cc), λ e. rw (eqb-true k n e))
 
--- and allowed if its number is in range
-allowed-within : (o : Outcome Answer) → inRange (refusalOf o) ≡ true → Allowed o
-unfolding refusalOf option
-allowed-within (answer (reply cluster bytes u)) e = replies cluster bytes u
-allowed-within (answer (leave q)) e = leaves q
-allowed-within (refusal n) e = let (low, high) = and-eq-true-iff (leb 1 n) (leb n 5) .0 e in refuses n (leb-true 1 n low) (leb-true n 5 high)
+-- the contract of `dispatch` leaves table and buffer where a refusal is told
+kept-where-refused : (o : Outcome Answer) (t : BindingTable) → Kept o t
+unfolding mapped tableAfter bufferAfter
+kept-where-refused (answer x) t n told u before after d e = absurd (refused (sym e ∙ d .said))
+kept-where-refused (refusal k) t n told u before after d e = (d .table, d .buffer)
+
+module _ (h : Host) (a : Asked) where
+  -- what the answer to a request shows, where there is one
+  abbrev expected : Shown
+  expected = cond (eqb (a .cluster) MGMT-LEAVE-REQ) left (replied (a .cluster + 0x8000) (roomNeeded h a))
+
+  -- so it is of a request, by whether the tables are bad
+  abbrev first : Bool → Outcome Shown
+  first bad = firstOf bad (unknown a) (malformed a) (crowded h a) (tooLong h a) expected
+
+  -- what may be shown
+  abbrev Shows : Outcome Shown → Type 0
+  Shows (answer (replied cluster n)) = (cluster ≡ a .cluster + 0x8000) × (a .cluster ≡ MGMT-LEAVE-REQ → ⊥) × (n ≡ roomNeeded h a) × (n ≤ a .room)
+  Shows (answer left) = a .cluster ≡ MGMT-LEAVE-REQ
+  Shows (refusal n) = (leb 1 n ≡ true) × (leb n 5 ≡ true)
+
+  -- an outcome is allowed that shows it
+  allowed-shown : (o : Outcome Answer) → Shows (mapped shown o) → Allowed h a o
+  unfolding mapped shown
+  allowed-shown (answer (reply cluster bytes u)) (raised, stays, long, fits) = rw raised (replies bytes u stays long fits)
+  allowed-shown (answer (leave q)) e = leaves q e
+  allowed-shown (refusal n) (low, high) = refuses n (leb-true 1 n low) (leb-true n 5 high)
+
+  -- what is expected may be shown where it fits
+  shows-expected :
+      (leaves : Bool)
+      → eqb (a .cluster) MGMT-LEAVE-REQ ≡ leaves
+      → tooLong h a ≡ false
+      → Shows (answer (cond leaves left (replied (a .cluster + 0x8000) (roomNeeded h a))))
+  unfolding tooLong
+  shows-expected true e fits = eqb-true (a .cluster) MGMT-LEAVE-REQ e
+  shows-expected false e fits = (refl, eqb-false (a .cluster) MGMT-LEAVE-REQ e, refl, ltb-false (a .room) (roomNeeded h a) fits)
+
+  -- the first of five reasons, or what is expected: it may be shown, and each number is that of its reason where no earlier one holds
+  first-reasons :
+      (one two three four five : Bool)
+      → tooLong h a ≡ five
+      → let o = firstOf one two three four five expected in
+      Shows o
+      × (is 1 o ≡ one)
+      × (is 2 o ≡ (not one && two))
+      × (is 3 o ≡ (not one && not two && three))
+      × (is 4 o ≡ (not one && not two && not three && four))
+      × (is 5 o ≡ (not one && not two && not three && not four && five))
+  first-reasons true b c d e long = ((refl, refl), refl, refl, refl, refl, refl)
+  first-reasons false true c d e long = ((refl, refl), refl, refl, refl, refl, refl)
+  first-reasons false false true d e long = ((refl, refl), refl, refl, refl, refl, refl)
+  first-reasons false false false true e long = ((refl, refl), refl, refl, refl, refl, refl)
+  first-reasons false false false false true long = ((refl, refl), refl, refl, refl, refl, refl)
+  first-reasons false false false false false long = (shows-expected (eqb (a .cluster) MGMT-LEAVE-REQ) refl long, refl, refl, refl, refl, refl)
 
 -- ---- tables
 
@@ -101,10 +140,13 @@ neither : (a b : Bool) → (not a && not b) ≡ not (a || b)
 neither true b = refl
 neither false b = refl
 
--- a test that follows from the first says no more
-implied : (a b c d e : Bool) → (a ≡ true → b ≡ true) → (a && (b && c && d && e)) ≡ (a && c && d && e)
-implied true b c d e h = rw (h refl)
-implied false b c d e h = refl
+-- of two numbers that are to be at most 32, the greater says it
+greater-few : (m n : ℕ) (b c d : Bool) → n ≤ m → (leb m 32 && (leb n 32 && b && c && d)) ≡ (leb m 32 && b && c && d)
+greater-few m n b c d less = go (leb m 32) refl
+  where
+    go : (t : Bool) → leb m 32 ≡ t → (t && (leb n 32 && b && c && d)) ≡ (t && b && c && d)
+    go true e = rw (le-leb n 32 (omega (arith, leb-true m 32 e)))
+    go false e = refl
 
 -- all pass a test exactly if none fails it
 none-fails : {A : Type 0} (p q : A → Bool) → ((x : A) → p x ≡ not (q x)) → (xs : List A) → all p xs ≡ not (any q xs)
@@ -117,22 +159,19 @@ record-fits : (p : Pools) (e : EndpointDescriptor) → recordFits p e ≡ not (r
 unfolding recordFits runsPast
 record-fits p e = rw (turned (e .«input_start» + e .«input_count»), turned (e .«output_start» + e .«output_count»), neither)
 
--- no more records are in use than are counted
-few-used : (d : DeviceDescriptorConfig) → leb (d .«endpoint_count») 32 ≡ true → leb (length (used d)) 32 ≡ true
-unfolding used
-few-used d few = le-leb (length (used d)) 32 (rw length-take (omega (arith, leb-true (d .«endpoint_count») 32 few)))
-
 -- a device's tables are good exactly if they are not bad
-device-good : (p : Pools) (d : DeviceDescriptorConfig) → goodDevice p d ≡ not (badDevice p d)
-unfolding goodDevice goodRecords goodSizes badDevice
-device-good p d =
+device-good : (h : Host) → goodHost h ≡ not (badDevice h)
+unfolding goodHost goodDevice goodRecords goodSizes badDevice used
+device-good h =
+    let p = h .pools in
+    let n = h .device .«endpoint_count» in
     let fit = none-fails (recordFits p) (runsPast p) (record-fits p) in
-    rw (implied (leb (d .«endpoint_count») 32) (leb (length (used d)) 32) _ _ _ (few-used d), turned (d .«endpoint_count»))
-    (rw (turned (length (p .inputs)), turned (length (p .outputs)), fit, neither, neither, neither))
+    rw (greater-few n (length (used (h .device))) _ _ _ (rw length-take (omega arith)))
+    (rw (turned n, turned (length (p .inputs)), turned (length (p .outputs)), fit, neither, neither, neither))
 
 -- and so are all tables
 tables-good : (h : Host) (t : BindingTable) → (goodHost h && goodTable t) ≡ not (badTables h t)
-unfolding goodHost goodTable badTables badTable
+unfolding goodTable badTables badTable
 tables-good h t = rw (device-good, turned (t .count), turned (t .limit), neither, neither)
 
 -- ---- what is read, and what is sent
@@ -143,12 +182,15 @@ module _ {A B : Type 0} where
   of-chosen f true x y = refl
   of-chosen f false x y = refl
 
-  -- what needs n bytes, and what comes next: refused for too few
-  needing-then : (n : ℕ) (bytes : List ℕ) (a : A) (next : A → Outcome B) → andThen (needing n bytes a) next ≡ cond (shorter bytes n) (refusal 3) (next a)
-  unfolding needing andThen
-  needing-then n bytes a next =
-      rw (turned n)
-      (elim (shorter bytes n) as (λ t. andThen (cond (not t) (answer a) (refusal 3)) next ≡ cond t (refusal 3) (next a)) [ true ↦ refl | false ↦ refl ])
+  -- the same where a number is to be at most another
+  of-least : (f : A → B) (m n : ℕ) (x y : A) → f (cond (leb m n) x y) ≡ cond (ltb n m) (f y) (f x)
+  of-least f m n x y = rw (turned m n) (elim (ltb n m) as (λ t. f (cond (not t) x y) ≡ cond t (f y) (f x)) [ true ↦ refl | false ↦ refl ])
+
+module _ {A B : Type 0} where
+  -- a function of what needs n bytes
+  of-needing : (f : Outcome A → B) (n : ℕ) (bytes : List ℕ) (a : A) → f (needing n bytes a) ≡ cond (shorter bytes n) (f (refusal 3)) (f (answer a))
+  unfolding needing
+  of-needing f n bytes a = of-least f n (length bytes) (answer a) (refusal 3)
 
   -- what comes next after an answer that is seen through f
   then-mapped : {C : Type 0} (f : A → B) (o : Outcome A) (next : B → Outcome C) → andThen (mapped f o) next ≡ andThen o (λ a. next (f a))
@@ -156,18 +198,19 @@ module _ {A B : Type 0} where
   then-mapped f (answer a) next = refl
   then-mapped f (refusal n) next = refl
 
--- what a reply of this length is refused for, in a buffer of this room
-abbrev sent : ℕ → Outcome ℕ → Option ℕ
-sent room (answer n) = cond (ltb room n) (some 5) none
-sent room (refusal k) = some k
+-- what is shown of a reply of this cluster and length, in a buffer of this room
+abbrev sent : ℕ → ℕ → Outcome ℕ → Outcome Shown
+sent room cluster (answer n) = cond (ltb room n) (refusal 5) (answer (replied cluster n))
+sent room cluster (refusal k) = refusal k
 
--- so is a reply that is to be sent
-refuse-sent : (room : ℕ) (o : Outcome (List ℕ)) (make : List ℕ → Answer) → refusalOf (mapped make (fitted room o)) ≡ sent room (mapped length o)
-unfolding refusalOf mapped fitted
-refuse-sent room (refusal k) make = refl
-refuse-sent room (answer bytes) make =
-    rw (turned (length bytes))
-    (elim (ltb room (length bytes)) as (λ t. refusalOf (mapped make (cond (not t) (answer bytes) (refusal 5))) ≡ cond t (some 5) none) [ true ↦ refl | false ↦ refl ])
+-- so it is of a reply that is to be sent
+show-sent :
+    (room cluster : ℕ) (u : BindingTable) (o : Outcome (List ℕ))
+    → mapped shown (mapped (λ bytes. reply cluster bytes u) (fitted room o)) ≡ sent room cluster (mapped length o)
+unfolding shown mapped fitted
+show-sent room cluster u (refusal k) = refl
+show-sent room cluster u (answer bytes) =
+    of-least (λ o. mapped shown (mapped (λ bytes. reply cluster bytes u) o)) (length bytes) room (answer bytes) (refusal 5)
 
 -- ---- the lengths of replies
 
@@ -186,8 +229,8 @@ module _ (us : Bool) (ours error : Outcome (List ℕ)) (m n : ℕ) (other : mapp
 address-length :
     (seq : ℕ) (long : IeeeAddress) (short : ShortAddress) (type : ℕ) (us : Bool) (error : Outcome (List ℕ))
     → mapped length error ≡ answer 12
-    → mapped length (cond us (ourAddress long short seq type) error) ≡ answer (addressBytes us type)
-unfolding ourAddress addressBytes
+    → mapped length (cond us (ourAddress long short seq type) error) ≡ answer (addressRoom us type)
+unfolding ourAddress addressRoom
 address-length seq long short type us error other = go us (eqb type 0) (eqb type 1) (apart type 0 1 refl)
   where
     go :
@@ -206,38 +249,30 @@ part-length : (start n : ℕ) (xs : List ℕ) → start + n ≤ length xs → le
 part-length start n xs h = length-take-le n (drop start xs) (rw length-drop (omega arith))
 
 -- a record that fits has the clusters that it counts
-clusters-counted : (p : Pools) (e : EndpointDescriptor) → recordFits p e ≡ true → clusterCount (endpointOf p e) ≡ clusters e
+clusters-counted : (p : Pools) (e : EndpointDescriptor) → recordFits p e ≡ true → clusterCount (endpointOf p e) ≡ recordClusters e
 unfolding clusterCount endpointOf
 clusters-counted p e fits =
     rw (part-length (e .«input_start») _ (p .inputs) (inputs-fit p e fits), part-length (e .«output_start») _ (p .outputs) (outputs-fit p e fits))
 
 module _ (seq : ℕ) (address : ShortAddress) where
-  -- a described endpoint, by how many clusters it has
-  described-sized : (e : Endpoint) → mapped length (describedRsp seq address e) ≡ cond (ltb 28 (clusterCount e)) (refusal 4) (answer (13 + 2 * clusterCount e))
+  -- a described endpoint, by whether it has too many clusters
+  described-sized :
+      (e : Endpoint) (many : Bool) → ltb 28 (clusterCount e) ≡ many → mapped length (describedRsp seq address e) ≡ cond many (refusal 4) (answer (13 + 2 * clusterCount e))
   unfolding describedRsp simpleWritten andThen mapped
-  described-sized e =
-      (elim (ltb 28 (clusterCount e)) as (λ t. ltb 28 (clusterCount e) ≡ t → mapped length (describedRsp seq address e) ≡ cond t (refusal 4) (answer (13 + 2 * clusterCount e))) [
-        | true ↦ λ many. rw (lt-leb _ _ (ltb-true 28 (clusterCount e) many))
-        | false ↦ λ few. reply-lengths .simple seq address e (ltb-false 28 (clusterCount e) few) ∙ ap answer (omega arith)
-      ])
-      refl
+  described-sized e true more = rw (lt-leb _ _ (ltb-true 28 (clusterCount e) more))
+  described-sized e false few = reply-lengths .simple seq address e (ltb-false 28 (clusterCount e) few) ∙ ap answer (omega arith)
 
   -- a simple reply about us, by the record that is found
   simple-sized :
       (p : Pools) (d : DeviceDescriptorConfig) (n : ℕ)
       → goodDevice p d ≡ true
-      → mapped length (simpleRspOf seq address p d n)
-      ≡ cond (option false (λ e. ltb 28 (clusters e)) (endpointRecord d n)) (refusal 4) (answer (option 5 (λ e. 13 + 2 * clusters e) (endpointRecord d n)))
-  unfolding simpleRspOf option endpointSays
-  simple-sized p d n good = go (endpointRecord d n) refl
-    where
-      go :
-          (found : Option EndpointDescriptor)
-          → endpointRecord d n ≡ found
-          → mapped length (option (emptyRsp seq NOT-ACTIVE address) (λ e. describedRsp seq address (endpointOf p e)) found)
-          ≡ cond (option false (λ e. ltb 28 (clusters e)) found) (refusal 4) (answer (option 5 (λ e. 13 + 2 * clusters e) found))
-      go none f = reply-lengths .listError seq NOT-ACTIVE address
-      go (some e) f = rw (← clusters-counted p e (good-found p d good n refl (sym f))) (described-sized (endpointOf p e))
+      → (found : Option EndpointDescriptor)
+      → endpointRecord d n ≡ found
+      → mapped length (option (emptyRsp seq NOT-ACTIVE address) (λ e. describedRsp seq address (endpointOf p e)) found)
+      ≡ cond (option false (λ e. ltb 28 (recordClusters e)) found) (refusal 4) (answer (option 5 (λ e. 13 + 2 * recordClusters e) found))
+  unfolding option endpointSays
+  simple-sized p d n good none f = reply-lengths .listError seq NOT-ACTIVE address
+  simple-sized p d n good (some e) f = rw (← clusters-counted p e (good-found p d good n refl (sym f))) (described-sized (endpointOf p e) _ refl)
 
   -- a reply that lists a number for each of these
   list-length : {A : Type 0} (xs : List A) (f : A → ℕ) → mapped length (listRsp seq address (map f xs)) ≡ answer (5 + length xs)
@@ -275,37 +310,41 @@ module _ (payload : List ℕ) where
   -- so many are found
   match-length :
       (h : Host)
-      → mapped length (onMatch (h .device .node .«logical_type») (resolved h) (h .«nwk_addr») payload matchReq) ≡ answer (cond (aboutUs h payload) (5 + matching h payload) 3)
-  unfolding onMatch about matchList matching aboutUs matchReqOf matchWidths fieldsAt
+      → mapped length (onMatch (h .device .node .«logical_type») (resolved h) (h .«nwk_addr») payload matchReq)
+      ≡ answer (cond (aboutUs h payload) (5 + length (matched h payload)) 3)
+  unfolding onMatch about matchList matched aboutUs matchReqOf matchWidths fieldsAt
   match-length h =
-      let found : List Endpoint = filter (matches (lookedFor payload)) (resolved h) in
-      rw wanted-read (about-length (aboutUs h payload) _ (matchDescRspError _ _) _ 3 (reply-lengths .matchError _ _) (list-length _ _ found _))
+      rw wanted-read (about-length (aboutUs h payload) _ (matchDescRspError _ _) _ 3 (reply-lengths .matchError _ _) (list-length _ _ (matched h payload) _))
 
 -- ---- bind and unbind requests
 
 module _ (payload : List ℕ) where
-  -- what is read by one of two modes, and then refused by 5 where it is long
-  refuse-mode :
-      {A : Type 0} (group device long : Bool) (x y : A) (next : A → Outcome Answer)
-      → (group && device) ≡ false
-      → ((q : A) → refusalOf (next q) ≡ cond long (some 5) none)
-      → refusalOf (andThen (cond group (needing 15 payload x) (cond device (needing 22 payload y) (refusal 3))) next)
-      ≡ firstOf false false (shorter payload (cond device 22 15) || not (group || device)) false long
-  unfolding refusalOf andThen
-  refuse-mode true true long x y next e after = absurd (false≢true (sym e))
-  refuse-mode true false long x y next e after = rw (needing-then, of-chosen refusalOf (shorter payload 15), after x, or-false)
-  refuse-mode false true long x y next e after = rw (needing-then, of-chosen refusalOf (shorter payload 22), after y, or-false)
-  refuse-mode false false long x y next e after = rw or-true
+  -- the mode stands at byte 12
+  abbrev mode : ℕ
+  mode = byteOf payload 12
 
-  -- so is a request whose reply is a status
-  refuse-link :
-      (room : ℕ) (make : BindReq → List ℕ → Answer) (status : BindReq → ℕ)
-      → refusalOf (andThen (bindReqIn payload) (λ q. mapped (make q) (fitted room (statusRsp (q .seq) (status q)))))
-      ≡ firstOf false false (shorter payload (bindBytes payload) || not (eqb (byteOf payload 12) 1 || eqb (byteOf payload 12) 3)) false (ltb room 2)
+  -- what is shown of what is read by one of two modes, and then refused by 5 where it is long
+  show-mode :
+      {A : Type 0} (group device long : Bool) (s : Shown) (x y : A) (next : A → Outcome Answer)
+      → (group && device) ≡ false
+      → ((q : A) → mapped shown (next q) ≡ cond long (refusal 5) (answer s))
+      → mapped shown (andThen (cond group (needing 15 payload x) (cond device (needing 22 payload y) (refusal 3))) next)
+      ≡ firstOf false false (shorter payload (cond device 22 15) || not (group || device)) false long s
+  unfolding mapped andThen
+  show-mode true true long s x y next e after = absurd (false≢true (sym e))
+  show-mode true false long s x y next e after = rw (of-needing (λ o. mapped shown (andThen o next)) 15 payload x, after x, or-false)
+  show-mode false true long s x y next e after = rw (of-needing (λ o. mapped shown (andThen o next)) 22 payload y, after y, or-false)
+  show-mode false false long s x y next e after = rw or-true
+
+  -- so it is of a request whose reply is a status
+  show-link :
+      (room cluster : ℕ) (after : BindReq → BindingTable) (status : BindReq → ℕ)
+      → mapped shown (andThen (bindReqIn payload) (λ q. mapped (λ bytes. reply cluster bytes (after q)) (fitted room (statusRsp (q .seq) (status q)))))
+      ≡ firstOf false false (shorter payload (bindBytes payload) || not (eqb mode 1 || eqb mode 3)) false (ltb room 2) (replied cluster 2)
   unfolding bindReqIn destinationIn groupIn deviceIn bindBytes
-  refuse-link room make status =
-      let mode : ℕ = byteOf payload 12 in
-      rw (then-mapped, byte-read) (refuse-mode (eqb mode 1) (eqb mode 3) (ltb room 2) _ _ _ (apart mode 1 3 refl) (λ d. rw (refuse-sent, reply-lengths .status)))
+  show-link room cluster after status =
+      rw (then-mapped, byte-read)
+      (show-mode (eqb mode 1) (eqb mode 3) (ltb room 2) _ _ _ _ (apart mode 1 3 refl) (λ d. show-sent room cluster _ _ ∙ ap (sent room cluster) (reply-lengths .status _ _)))
 
 -- ---- clusters
 
@@ -326,70 +365,67 @@ module _ (h : Host) (t : BindingTable) (payload : List ℕ) (room : ℕ) where
   abbrev asks : ℕ → Asked
   asks c = record { cluster = c; payload = payload; room = room }
 
-  -- what it is refused for, where the tables are good
-  abbrev Refused : ℕ → Type 0
-  Refused c = refusalOf (byCluster h t (asks c)) ≡ firstOf false (unknown (asks c)) (malformed (asks c)) (crowded h (asks c)) (tooLong h (asks c))
+  -- what is shown, where the tables are good: the first reason that holds, or what is expected
+  abbrev ShownBy : ℕ → Type 0
+  ShownBy c = mapped shown (byCluster h t (asks c)) ≡ first h (asks c) false
 
   -- a discovery request that needs n bytes, whose reply has this length
-  refuse-discovery :
+  show-discovery :
       {Q : Type 0} (c n : ℕ) (q : Q) (next : Q → Outcome (List ℕ))
-      → mapped length (next q) ≡ cond (crowded h (asks c)) (refusal 4) (answer (replyBytes h payload c))
-      → refusalOf (mapped (λ bytes. reply (replyCluster c) bytes t) (fitted room (andThen (needing n payload q) next)))
-      ≡ firstOf false false (shorter payload n || false) (crowded h (asks c)) (tooLong h (asks c))
-  unfolding tooLong mapped
-  refuse-discovery c n q next e =
-      rw (refuse-sent, needing-then, of-chosen (λ (o : Outcome (List ℕ)). sent room (mapped length o)) (shorter payload n), e, of-chosen (sent room) (crowded h (asks c)), or-false)
+      → mapped length (next q) ≡ cond (crowded h (asks c)) (refusal 4) (answer (roomNeeded h (asks c)))
+      → mapped shown (mapped (λ bytes. reply (replyCluster c) bytes t) (fitted room (andThen (needing n payload q) next)))
+      ≡ firstOf false false (shorter payload n || false) (crowded h (asks c)) (tooLong h (asks c)) (replied (replyCluster c) (roomNeeded h (asks c)))
+  unfolding tooLong mapped andThen
+  show-discovery c n q next e =
+      let made : Outcome ℕ → Outcome Shown = sent room (replyCluster c) in
+      rw (show-sent room (replyCluster c) t, of-needing (λ o. made (mapped length (andThen o next))) n payload q, e, of-chosen made (crowded h (asks c)), or-false)
 
   -- any other cluster
-  refuse-other : (c : ℕ) → Each (λ x. eqb c x ≡ false) requestClusters → Refused c
-  unfolding byCluster discovered discovery unknown among any refusalOf mapped fitted
-  refuse-other c (e0 & e1 & e2 & e3 & e4 & e5 & e6 & e7 & e8 & e9 & end) = rw (e0, e1, e2, e3, e4, e5, e6, e7, e8, e9)
+  show-other : (c : ℕ) → Each (λ x. eqb c x ≡ false) requestClusters → ShownBy c
+  unfolding byCluster discovered discovery unknown among any mapped fitted
+  show-other c (e0 & e1 & e2 & e3 & e4 & e5 & e6 & e7 & e8 & e9 & end) = rw (e0, e1, e2, e3, e4, e5, e6, e7, e8, e9)
 
   -- each cluster
-  refuse-cluster : goodDevice (h .pools) (h .device) ≡ true → (c : ℕ) → Refused c
-  unfolding byCluster discovered discovery unknown among any malformed badMode requestBytes forCluster tooLong replyBytes crowded aboutUs simpleBytes nwkAddrReqIn ieeeAddrReqIn addrOfInterestReqIn addrOfInterestWidths simpleDescReqIn mgmtLeaveReqIn parsed size fieldsAt onNwkAddr onIeeeAddr onNode onPower onSimple onActive about activeRspOf numbers onLink linkAnswer
-  refuse-cluster good c =
+  show-cluster : goodDevice (h .pools) (h .device) ≡ true → (c : ℕ) → ShownBy c
+  unfolding mapped shown byCluster discovered discovery unknown among any malformed badMode bytesNeeded forCluster tooLong roomNeeded crowded aboutUs recordAsked simpleRoom nwkAddrReqIn ieeeAddrReqIn addrOfInterestReqIn addrOfInterestWidths simpleDescReqIn mgmtLeaveReqIn parsed size fieldsAt onNwkAddr onIeeeAddr onNode onPower onSimple onActive about simpleRspOf activeRspOf numbers onLink linkAnswer
+  show-cluster good c =
       let us : Bool = aboutUs h payload in
-      each-or-none Refused c requestClusters
-      (refuse-discovery NWK-ADDR-REQ 10 _ _ (rw (byte-read payload 9) (address-length _ _ _ _ _ _ (reply-lengths .addressError _ _ _ _)))
-      & refuse-discovery IEEE-ADDR-REQ 4 _ _ (rw (byte-read payload 3) (address-length _ _ _ _ us _ (reply-lengths .addressError _ _ _ _)))
-      & refuse-discovery NODE-DESC-REQ 3 _ _ (about-length us _ _ 17 4 (reply-lengths .descriptorError _ _ _) (reply-lengths .node _ _ _))
-      & refuse-discovery POWER-DESC-REQ 3 _ _ (about-length us _ _ 6 4 (reply-lengths .descriptorError _ _ _) (reply-lengths .power _ _ _))
-      & refuse-discovery SIMPLE-DESC-REQ 4 _ _ (rw (byte-read payload 3) (about-crowded us _ _ _ _ (reply-lengths .listError _ _ _) _ (simple-sized _ _ _ _ _ good)))
-      & refuse-discovery ACTIVE-EP-REQ 3 _ _ (about-length us _ _ _ _ (reply-lengths .listError _ _ _) (list-length _ _ (used (h .device)) _))
-      & (rw match-read (refuse-discovery MATCH-DESC-REQ (matchBytes payload) _ _ (match-length payload h)))
-      & refuse-link payload room _ _
-      & refuse-link payload room _ _
-      & (rw (refuse-mapped, refuse-parsed, le-ltb room 0 (omega arith), or-false))
+      each-or-none ShownBy c requestClusters
+      (show-discovery NWK-ADDR-REQ 10 _ _ (rw (byte-read payload 9) (address-length _ _ _ _ _ _ (reply-lengths .addressError _ _ _ _)))
+      & show-discovery IEEE-ADDR-REQ 4 _ _ (rw (byte-read payload 3) (address-length _ _ _ _ us _ (reply-lengths .addressError _ _ _ _)))
+      & show-discovery NODE-DESC-REQ 3 _ _ (about-length us _ _ 17 4 (reply-lengths .descriptorError _ _ _) (reply-lengths .node _ _ _))
+      & show-discovery POWER-DESC-REQ 3 _ _ (about-length us _ _ 6 4 (reply-lengths .descriptorError _ _ _) (reply-lengths .power _ _ _))
+      & show-discovery SIMPLE-DESC-REQ 4 _ _ (rw (byte-read payload 3) (about-crowded us _ _ _ _ (reply-lengths .listError _ _ _) _ (simple-sized _ _ _ _ _ good _ refl)))
+      & show-discovery ACTIVE-EP-REQ 3 _ _ (about-length us _ _ _ _ (reply-lengths .listError _ _ _) (list-length _ _ (used (h .device)) _))
+      & (rw match-read (show-discovery MATCH-DESC-REQ (matchBytes payload) _ _ (match-length payload h)))
+      & show-link payload room _ _ _
+      & show-link payload room _ _ _
+      & (rw (of-needing (λ o. mapped shown (mapped leave o)) 10 payload _, le-ltb room 0 (omega arith), or-false))
       & end)
-      (refuse-other c)
+      (show-other c)
 
 -- ---- all
 
--- a request is refused by the number of the first reason that holds
-first-reason : (h : Host) (t : BindingTable) (a : Asked) → refusalOf (answered h t a) ≡ firstOf (badTables h t) (unknown a) (malformed a) (crowded h a) (tooLong h a)
-unfolding answered refusalOf goodHost
+-- a request is refused by the number of the first reason that holds, and else its answer shows what is expected
+first-reason : (h : Host) (t : BindingTable) (a : Asked) → mapped shown (answered h t a) ≡ first h a (badTables h t)
+unfolding answered mapped goodHost
 first-reason h t a = rw (tables-good h t) (go (badTables h t) refl)
   where
-    go :
-        (bad : Bool)
-        → badTables h t ≡ bad
-        → refusalOf (cond (not bad) (byCluster h t a) (refusal 1)) ≡ firstOf bad (unknown a) (malformed a) (crowded h a) (tooLong h a)
+    go : (bad : Bool) → badTables h t ≡ bad → mapped shown (cond (not bad) (byCluster h t a) (refusal 1)) ≡ first h a bad
     go true e = refl
-    go false e = refuse-cluster h t (a .payload) (a .room) (and-eq-true-iff (goodHost h) (goodTable t) .0 (tables-good h t ∙ ap not e) .0) (a .cluster)
+    go false e = show-cluster h t (a .payload) (a .room) (and-eq-true-iff (goodHost h) (goodTable t) .0 (tables-good h t ∙ ap not e) .0) (a .cluster)
 
 pub each-answered : EachAnswered
-unfolding tableAfter bufferAfter
 each-answered h t a =
     let o = answered h t a in
-    let (range, one, two, three, four, five) = first-reasons (badTables h t) (unknown a) (malformed a) (crowded h a) (tooLong h a) in
+    let reason = first-reason h t a in
+    let (shows, one, two, three, four, five) = first-reasons h a (badTables h t) (unknown a) (malformed a) (crowded h a) (tooLong h a) refl in
     record {
-      allowed = allowed-within o (rw (first-reason h t a) range);
-      table = λ n e. rw e;
-      buffer = λ n before e. rw e;
-      one = rw (first-reason h t a, one) at (exactly o 1);
-      two = rw (first-reason h t a, two) at (exactly o 2);
-      three = rw (first-reason h t a, three) at (exactly o 3);
-      four = rw (first-reason h t a, four) at (exactly o 4);
-      five = rw (first-reason h t a, five) at (exactly o 5);
+      allowed = allowed-shown h a o (rw reason shows);
+      kept = kept-where-refused o t;
+      one = rw (reason, one) at (exactly o 1);
+      two = rw (reason, two) at (exactly o 2);
+      three = rw (reason, three) at (exactly o 3);
+      four = rw (reason, four) at (exactly o 4);
+      five = rw (reason, five) at (exactly o 5);
     }

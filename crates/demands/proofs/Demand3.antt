@@ -2,7 +2,9 @@
 -- nothing. Assumes nothing.
 use Prim.Native.Nat.{ℕ, _%_, _≤_}
 use mathlib.Core.Path.{_≡_, refl, sym, _∙_}
-use mathlib.Core.List.{List, [], _∷_}
+use mathlib.Core.Bool.{false≢true}
+use mathlib.Core.List.{List, [], _∷_, map}
+use Rattle.zigbee_types.specs.Lists.{any}
 use Rattle.zigbee_types.specs.Outcome.{Outcome, answer, refusal, mapped}
 use Rattle.zigbee_types.specs.Statuses.{SUCCESS, NO-ENTRY, TABLE-FULL}
 use Rattle.aps_binding.specs.declared.binding.Binding.{Binding}
@@ -15,10 +17,11 @@ use Rattle.zdo_discovery.specs.Host.{Host, Asked, asking}
 use Rattle.zdo_dispatcher.specs.Answers.{Told, replied, answered, tableAfter}
 use Rattle.demands.specs.Calls.{Call, bind, unbind, told, next}
 use Rattle.demands.specs.Order.{Agree, equal, room, kept}
-use Rattle.demands.specs.Servers.{Request, dispatcher, served, nextState, stateAfter, Seen, seen}
+use Rattle.demands.specs.Demand1.{among}
+use Rattle.demands.specs.Servers.{Request, askedOf, nextState, stateAfter, comesOf, dispatcher, Seen, seen}
 use Rattle.demands.specs.Demand3.{Alike, Ahead, MoreRoom, SuccessStays, OthersSame}
 use Rattle.demands.specs.Demand3 as alike
-use Rattle.demands.proofs.Runs.{left-both}
+use Rattle.demands.proofs.Runs.{left-alike}
 use Rattle.demands.proofs.Calls.{stepped, Stepped, again, full, added, removed, absent, step-cases, told-step, next-placed}
 use Rattle.demands.proofs.Order.{Behind, behind-next, behind-ordered, behind-empty}
 use Rattle.demands.proofs.Requests.{Plain, replies, leaves, keeping, clusterOf, linked, status-bytes, Kind, idle, call, kind}
@@ -41,7 +44,7 @@ call-table cluster seq c g = sym (next-placed c g)
 -- ---- what is seen of it
 
 -- what does nothing shows the same on any two tables
-kept-shown : (t u : BindingTable) (o : Outcome Plain) → shown (mapped (keeping t) o) ≡ shown (mapped (keeping u) o)
+pub kept-shown : (t u : BindingTable) (o : Outcome Plain) → shown (mapped (keeping t) o) ≡ shown (mapped (keeping u) o)
 unfolding shown mapped keeping
 kept-shown t u (answer (replies cluster bytes)) = refl
 kept-shown t u (answer (leaves q)) = refl
@@ -74,7 +77,7 @@ call-shown cluster seq t c = rw (status-bytes, status-byte (step-cases t c))
 
 module _ (h : Host) {t u : BindingTable} (b : Behind t u) (a : Asked) where
   -- what is shown is alike
-  shown-alike : Kind h a → Alike (a .cluster) (shown (answered h t a)) (shown (answered h u a))
+  pub shown-alike : Kind h a → Alike (a .cluster) (shown (answered h t a)) (shown (answered h u a))
   shown-alike (idle o _ _ is) = rw (is t (b .less), is u (b .more), kept-shown u t o) (alike.equal _)
   shown-alike (call c seq e _ is) =
       let agree : Agree c (answer (stepped t c .status)) (answer (stepped u c .status)) =
@@ -89,34 +92,39 @@ module _ (h : Host) {t u : BindingTable} (b : Behind t u) (a : Asked) where
 -- ---- runs
 
 module _ (h : Host) where
-  -- a request
-  behind-state : (t u : BindingTable) (r : Request) → Behind t u → Behind (nextState (dispatcher h) t r) (nextState (dispatcher h) u r)
-  unfolding dispatcher served
-  behind-state t u r b = behind-request h b _ (kind h _)
+  -- what is so between two tables stays so, whatever is asked
+  pub behind-state : (t u : BindingTable) (r q : Request) → askedOf r ≡ askedOf q → Behind t u → Behind (nextState (dispatcher h) t r) (nextState (dispatcher h) u q)
+  unfolding dispatcher comesOf
+  behind-state t u r q e b = rw (← e) (behind-request h b (askedOf r) (kind h (askedOf r)))
 
-  -- what is so between the tables is what demand 3 says
-  behind-ahead : {t u : BindingTable} → Behind t u → Ahead (dispatcher h) t u
-  unfolding dispatcher served asking
-  behind-ahead {t} {u} b =
-      record {
-        entries = behind-ordered b .entries;
-        answers = λ r. rw (seen-shown h t _ (r .buffer), seen-shown h u _ (r .buffer)) (shown-alike h b _ (kind h _));
-      }
+  -- and is what demand 3 says
+  pub behind-alike : {t u : BindingTable} → Behind t u → (r q : Request) → askedOf r ≡ askedOf q → Alike (r .cluster) (seen (dispatcher h .serve t r)) (seen (dispatcher h .serve u q))
+  unfolding asking
+  behind-alike {t} {u} b r q e = rw (seen-shown h t r, seen-shown h u q, ← e) (shown-alike h b (askedOf r) (kind h (askedOf r)))
 
-  -- requests, from empty
-  pub behind-run : (less more : ℕ) → less ≤ more → more ≤ 32 → (rs : List Request) → Behind (stateAfter (dispatcher h) (emptyTable less) rs) (stateAfter (dispatcher h) (emptyTable more) rs)
-  behind-run less more e l rs = left-both (nextState (dispatcher h)) Behind behind-state rs (behind-empty less more e l)
+  -- so it is after requests, from empty
+  pub behind-run :
+      (less more : ℕ)
+      → less ≤ more
+      → more ≤ 32
+      → (rs us : List Request)
+      → map askedOf rs ≡ map askedOf us
+      → Behind (stateAfter (dispatcher h) (emptyTable less) rs) (stateAfter (dispatcher h) (emptyTable more) us)
+  behind-run less more e l rs us same = left-alike (nextState (dispatcher h)) askedOf Behind behind-state rs us same (behind-empty less more e l)
 
 pub more-room : MoreRoom
 unfolding dispatcher
-more-room h less more e l rs = behind-ahead h (behind-run h less more e l rs)
+more-room h less more e l rs us same =
+    let b = behind-run h less more e l rs us same in
+    record { entries = behind-ordered b .entries; answers = behind-alike h b }
 
 -- ---- what it permits
 
 pub success-stays : SuccessStays
-success-stays cluster told seq rest s (alike.equal _) = refl
+success-stays cluster _ seq rest s is (alike.equal _) = refl
 
 pub others-same : OthersSame
-others-same cluster s u other another (alike.equal _) = refl
-others-same cluster s u other another (alike.room _ _ _ e) = absurd (other e)
-others-same cluster s u other another (alike.kept _ _ _ e) = absurd (another e)
+unfolding among any
+others-same cluster s u other (alike.equal _) = refl
+others-same cluster s u other (alike.room _ _ _ e) = absurd (false≢true (sym (rw e at other)))
+others-same cluster s u other (alike.kept _ _ _ e) = absurd (false≢true (sym (rw e at other)))

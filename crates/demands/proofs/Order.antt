@@ -16,7 +16,7 @@ use Rattle.aps_binding_table.proofs.Holds.{not-same, last-keeps, last-held, las
 use Rattle.demands.specs.Calls.{Call, next}
 use Rattle.demands.specs.Reached.{distinct}
 use Rattle.demands.specs.Order.{Agree, equal, room, kept, SuccessKept, Ordered, Order}
-use Rattle.demands.proofs.Runs.{left-both}
+use Rattle.demands.proofs.Runs.{left-alike}
 use Rattle.demands.proofs.Calls.{stepped, Stepped, again, full, added, removed, absent, step-cases, told-step, good-next, next-limit, next-held}
 use Rattle.demands.proofs.Distinct.{distinct-last, distinct-without, holds-gone}
 
@@ -130,6 +130,24 @@ behind-ordered r =
       statuses = λ c. rw (told-step c (r .less), told-step c (r .more)) (stepped-next c r .1);
     }
 
+-- and with other limits, which leave the second no less room than the first
+pub behind-limited :
+    {t u : BindingTable} (m n : ℕ)
+    → Behind t u
+    → t .count ≤ m
+    → m ≤ 32
+    → u .count ≤ n
+    → n ≤ 32
+    → u .count + m ≤ t .count + n
+    → Behind (record { entries = t .entries; limit = m; count = t .count }) (record { entries = u .entries; limit = n; count = u .count })
+unfolding held
+behind-limited m n b low few high most spare =
+    record {
+      less = record { within = low; limited = few; places = b .less .places };
+      more = record { within = high; limited = most; places = b .more .places };
+      ahead = record { sub = b .ahead .sub; once = b .ahead .once; spare = omega (arith, held-length (b .less), held-length (b .more)) };
+    }
+
 -- and of two empty tables
 pub behind-empty : (less more : ℕ) → less ≤ more → more ≤ 32 → Behind (emptyTable less) (emptyTable more)
 unfolding emptyTable held distinct
@@ -141,4 +159,4 @@ behind-empty less more h l =
     }
 
 pub order : Order
-order less more h l cs = behind-ordered (left-both next Behind (λ t u c b. behind-next c b) cs (behind-empty less more h l))
+order less more h l cs = behind-ordered (left-alike next (λ c. c) Behind (λ t u c d e b. rw (← e) (behind-next c b)) cs cs refl (behind-empty less more h l))

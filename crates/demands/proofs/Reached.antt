@@ -33,7 +33,7 @@ once-step {xs = xs} (added b h room) d = distinct-last b xs d h
 once-step {xs = xs} (removed b h) d = distinct-without b xs d
 once-step (absent b h) d = d
 
-sound-good : {t : BindingTable} → Sound t → Good t
+pub sound-good : {t : BindingTable} → Sound t → Good t
 sound-good {t} r = good-table t (r .places) (r .good)
 
 pub sound-next : {t : BindingTable} (c : Call) → Sound t → Sound (next t c)

@@ -30,7 +30,7 @@ use Rattle.zdo_discovery.specs.Host.{Host, Asked, goodHost}
 use Rattle.zdo_discovery.specs.Discovery.{discovered}
 use Rattle.zdo_dispatcher.specs.Answers.{Answer, reply, leave, answered, byCluster, onLink, linkAnswer, linkStep, stepOf, sourceStatus}
 use Rattle.demands.specs.Calls.{Call, bind, unbind}
-use Rattle.demands.specs.Rules.{succeeded}
+use Rattle.demands.specs.Rules.{saysSuccess}
 use Rattle.demands.proofs.Calls.{stepped}
 
 -- ---- kinds of requests
@@ -68,8 +68,8 @@ linked cluster seq t s = reply (replyCluster cluster) (laid (statusFields seq (s
 pub data Kind (h : Host) (a : Asked) : Type 0 where
   idle :
       (o : Outcome Plain)
-      → ((eqb (a .cluster) BIND-REQ && succeeded (plainBytes o)) ≡ false)
-      → ((eqb (a .cluster) UNBIND-REQ && succeeded (plainBytes o)) ≡ false)
+      → ((eqb (a .cluster) BIND-REQ && saysSuccess (plainBytes o)) ≡ false)
+      → ((eqb (a .cluster) UNBIND-REQ && saysSuccess (plainBytes o)) ≡ false)
       → ((t : BindingTable) → Good t → answered h t a ≡ mapped (keeping t) o)
       → Kind h a
   call :
@@ -112,7 +112,7 @@ denied d long q = go (sameIeee (q .«src_address») long) (supportsEndpoint d (q
 
 module _ (h : Host) (a : Asked) where
   -- what does nothing and does not succeed
-  failing : (o : Outcome Plain) → succeeded (plainBytes o) ≡ false → ((t : BindingTable) → Good t → answered h t a ≡ mapped (keeping t) o) → Kind h a
+  failing : (o : Outcome Plain) → saysSuccess (plainBytes o) ≡ false → ((t : BindingTable) → Good t → answered h t a ≡ mapped (keeping t) o) → Kind h a
   failing o e is = idle o (rw (e, and-false)) (rw (e, and-false)) is
 
   -- a bind or an unbind request that was read, by its source and the room
@@ -123,7 +123,7 @@ module _ (h : Host) (a : Asked) where
       → (eqb source SUCCESS ≡ false → eqb (source % 256) SUCCESS ≡ false)
       → ((t : BindingTable) → Good t → answered h t a ≡ answeredAs source c t q a)
       → Kind h a
-  unfolding answeredAs linkStep mapped keeping plainBytes succeeded linked
+  unfolding answeredAs linkStep mapped keeping plainBytes saysSuccess linked
   link-kind c q source cluster named other is = go (leb 2 (a .room)) (eqb source SUCCESS) refl refl
     where
       go : (fits ours : Bool) → leb 2 (a .room) ≡ fits → eqb source SUCCESS ≡ ours → Kind h a
@@ -140,7 +140,7 @@ module _ (h : Host) (a : Asked) where
       → ((b : Binding) → entryOf (make b) ≡ b)
       → ((t : BindingTable) → Good t → answered h t a ≡ andThen (bindReqIn (a .payload)) (λ q. answeredAs (sourceStatus (h .device) (h .«ieee_addr») q) (make (bindingOf q)) t q a))
       → Kind h a
-  unfolding andThen mapped plainBytes succeeded
+  unfolding andThen mapped plainBytes saysSuccess
   read-kind make cluster entry is = go (bindReqIn (a .payload)) refl
     where
       go : (o : Outcome BindReq) → bindReqIn (a .payload) ≡ o → Kind h a
@@ -186,7 +186,7 @@ module _ (h : Host) (a : Asked) where
 
   -- whatever the host
   pub kind : Kind h a
-  unfolding answered mapped plainBytes succeeded
+  unfolding answered mapped plainBytes saysSuccess
   kind = go (goodHost h) refl
     where
       go : (good : Bool) → goodHost h ≡ good → Kind h a

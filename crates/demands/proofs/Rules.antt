@@ -1,29 +1,35 @@
 -- Discovery replies do not depend on the binding table, the count of the table is the binds that added less the unbinds that
--- removed, and a match reply counts the records that match. Assumes nothing.
+-- removed, the table stays sound, and a match reply has the numbers of those that match. Assumes nothing.
 use Prim.Native.Nat.{ℕ, _+_, _%_, _≤_, _<_, min}
 use native.Mathlib.Nat.{mod-eq-of-lt}
 use native.Mathlib.Omega.{arith}
 use mathlib.Core.Path.{_≡_, refl, sym, _∙_}
 use mathlib.Core.Bool.{Bool, true, false, _&&_, not, cond, and-true, and-false, false≢true}
-use mathlib.Core.List.{List, [], _∷_, _++_, map}
+use mathlib.Core.List.{List, [], _∷_, map, map-map}
 use lib.Dec.{eqb, leb}
-use lib.ListN.{length, length-map, length-take}
+use lib.ListN.{length, drop, length-map}
 use borrow.Author.Tests.{eqb-true, leb-true}
 use Rattle.zigbee_types.specs.Outcome.{Outcome, answer, refusal, andThen, mapped, needing, fitted}
 use Rattle.zigbee_types.specs.Bytes.{le, bit}
-use Rattle.zigbee_types.specs.Layout.{laid}
+use Rattle.zigbee_types.specs.Layout.{byte, laid}
 use Rattle.zigbee_types.specs.Addresses.{sameShort}
 use Rattle.zigbee_types.specs.Lists.{any, filter}
 use Rattle.zigbee_types.specs.Statuses.{SUCCESS}
 use Rattle.zigbee_types.specs.declared.ShortAddress.{ShortAddress}
+use Rattle.zigbee_types.proofs.Outcomes.{refused}
 use Rattle.node_descriptor.specs.declared.LogicalType.{LogicalType}
 use Rattle.node_descriptor.specs.declared.LogicalType.the-variants.{Coordinator, Router, EndDevice, Reserved}
 use Rattle.aps_binding.specs.declared.binding.Binding.{Binding}
+use Rattle.aps_binding_table.specs.Held.{Step, holds}
 use Rattle.aps_binding_table.specs.Table.{emptyTable, goodTable, held}
 use Rattle.aps_binding_table.specs.declared.binding.BindingTable.{BindingTable}
 use Rattle.aps_binding_table.proofs.Good.{Good, good-table}
+use Rattle.aps_binding_table.proofs.Holds.{last-held}
 use Rattle.zdo_requests.specs.Clusters.{MATCH-DESC-REQ, BIND-REQ, UNBIND-REQ, MGMT-LEAVE-REQ, replyCluster}
-use Rattle.zdo_requests.specs.Requests.{bindReqIn, bindingOf}
+use Rattle.zdo_requests.specs.Requests.{bindReqIn, bindingTo, bindingOf}
+use Rattle.zdo_requests.specs.declared.descriptor.BindReq.{BindReq}
+use Rattle.zdo_requests.specs.declared.descriptor.BindReqDestination.{BindReqDestination}
+use Rattle.zdo_requests.specs.declared.descriptor.BindReqDestination.the-variants.{Group, Device}
 use Rattle.zdo_replies.specs.Replies.{header, matchErrorFields, matchDescRspError, endpointList, listRsp}
 use Rattle.simple_descriptor.specs.SimpleDescriptor.{Endpoint}
 use Rattle.zdo_matching.specs.Matching.{Wanted, matches, matchList}
@@ -31,15 +37,17 @@ use Rattle.zdo_discovery.specs.Host.{Host, Asked, asking, goodHost, resolved}
 use Rattle.zdo_discovery.specs.Discovery.{notOurs, about, onMatch, discovery, discovered}
 use Rattle.zdo_discovery.proofs.Places.{matches-few}
 use Rattle.zdo_dispatcher.specs.Answers.{reply, toldOf, answered, byCluster, tableAfter, bufferAfter}
+use Rattle.demands.specs.Runs.{left}
 use Rattle.demands.specs.Calls.{Call, bind, unbind, told, next}
-use Rattle.demands.specs.History as history
-use Rattle.demands.specs.ReadersRefuse.{byteOf}
-use Rattle.demands.specs.Servers.{Request, dispatcher, served, nextState, seen}
-use Rattle.demands.specs.Demand1.{discoveryClusters, among, matchBytes, lookedFor, matching}
-use Rattle.demands.specs.Rules.{Isolated, Isolation, succeeded, heldOf, succeeds, adds, removes, HistoryKept, MatchingKept}
-use Rattle.demands.proofs.Runs.{Balanced, left-balanced}
-use Rattle.demands.proofs.Calls.{stepped, told-step}
+use Rattle.demands.specs.History.{succeeded, adds, removes}
+use Rattle.demands.specs.Reached.{Built, group, device, BuiltCall, Reached}
+use Rattle.demands.specs.Servers.{Request, askedOf, nextState, comesOf, dispatcher, seen}
+use Rattle.demands.specs.Demand1.{discoveryClusters, among, matchBytes, lookedFor, matched}
+use Rattle.demands.specs.Rules.{Isolated, Isolation, saysSuccess, heldOf, namedHeld, succeedsAs, bindAdds, unbindRemoves, HistoryKept, ReachedByRequests, MatchingKept}
+use Rattle.demands.proofs.Runs.{left-keeps, Balanced, left-balanced}
+use Rattle.demands.proofs.Calls.{stepped, Stepped, again, full, added, removed, absent, step-cases, told-step, next-held}
 use Rattle.demands.proofs.History.{turn}
+use Rattle.demands.proofs.Reached.{sound-good, reached-next, reached-from-empty}
 use Rattle.demands.proofs.Demand1.{match-read, wanted-read}
 use Rattle.demands.proofs.Requests.{Plain, replies, leaves, keeping, plainBytes, clusterOf, entryOf, linked, Kind, idle, call, kind, bad-refused}
 use Rattle.demands.proofs.Servers.{shown, seen-shown}
@@ -81,150 +89,224 @@ plain-shown t (answer (replies cluster bytes)) = refl
 plain-shown t (answer (leaves q)) = refl
 plain-shown t (refusal n) = refl
 
-module _ (h : Host) (t : BindingTable) (r : Request) where
-  abbrev asked : Asked
-  asked = asking (r .cluster) (r .payload) (r .buffer)
+-- a bind that adds holds its entry afterwards
+added-held :
+    {limit : ℕ} {xs : List Binding} {b : Binding} {s : Step}
+    → Stepped limit xs (bind b) s
+    → (eqb (s .status) SUCCESS && (not (holds b xs) && holds b (s .entries))) ≡ (eqb (s .status) SUCCESS && not (holds b xs))
+added-held (again b h) = rw h
+added-held (full b h e) = refl
+added-held {xs = xs} (added b h e) = rw (h, last-held b xs)
 
-  -- the table after it is that of the outcome
-  state-after : nextState (dispatcher h) t r ≡ tableAfter t (answered h t asked)
-  unfolding dispatcher served
+-- an unbind that succeeds held it before
+removed-held :
+    {limit : ℕ} {xs : List Binding} {b : Binding} {s : Step}
+    → Stepped limit xs (unbind b) s
+    → (eqb (s .status) SUCCESS && holds b xs) ≡ eqb (s .status) SUCCESS
+removed-held (removed b h) = rw h
+removed-held (absent b h) = refl
+
+module _ (h : Host) (t : BindingTable) (r : Request) where
+  -- the table after a request is that of the outcome
+  state-after : nextState (dispatcher h) t r ≡ tableAfter t (answered h t (askedOf r))
+  unfolding dispatcher comesOf
   state-after = refl
 
   -- and whether it succeeds is seen of the outcome
-  succeeds-shown : (cluster : ℕ) → succeeds (dispatcher h) t r cluster ≡ (eqb (r .cluster) cluster && succeeded (shown (answered h t asked) .bytes))
-  unfolding succeeds served
+  succeeds-shown : (cluster : ℕ) → succeedsAs (dispatcher h) t r cluster ≡ (eqb (r .cluster) cluster && saysSuccess (shown (answered h t (askedOf r)) .bytes))
+  unfolding succeedsAs
   succeeds-shown cluster = rw seen-shown
 
-  -- what it removes and what it adds make the count
-  abbrev Even : Type 0
-  Even = Balanced (nextState (dispatcher h)) (λ t. t .count) (removes (dispatcher h)) (adds (dispatcher h)) t r
-
-  -- the places stay thirty-two
+  -- what it removes and what it adds make the count, and the places stay thirty-two
   abbrev Turn : Type 0
-  Turn = (length (nextState (dispatcher h) t r .entries) ≡ 32) × Even
+  Turn =
+      (length (nextState (dispatcher h) t r .entries) ≡ 32)
+      × Balanced (nextState (dispatcher h)) (λ t. t .count) (unbindRemoves (dispatcher h)) (bindAdds (dispatcher h)) t r
 
-  -- what does nothing, and is no bind or unbind that succeeds
+  -- so it is with what does nothing, and is no bind or unbind that succeeds
   idle-turn :
       (o : Outcome Plain)
       → length (t .entries) ≡ 32
-      → (eqb (r .cluster) BIND-REQ && succeeded (plainBytes o)) ≡ false
-      → (eqb (r .cluster) UNBIND-REQ && succeeded (plainBytes o)) ≡ false
-      → answered h t asked ≡ mapped (keeping t) o
+      → (eqb (r .cluster) BIND-REQ && saysSuccess (plainBytes o)) ≡ false
+      → (eqb (r .cluster) UNBIND-REQ && saysSuccess (plainBytes o)) ≡ false
+      → answered h t (askedOf r) ≡ mapped (keeping t) o
       → Turn
-  unfolding adds removes bit
+  unfolding bindAdds unbindRemoves bit
   idle-turn o long d e is = (rw (state-after, is, kept-table) long, rw (state-after, succeeds-shown, succeeds-shown, is, kept-table, plain-shown, d, e))
 
   -- a call adds and removes what the table's own function does
-  call-adds :
-      (c : Call) (seq : ℕ)
-      → Good t
-      → r .cluster ≡ clusterOf c
-      → mapped bindingOf (bindReqIn (r .payload)) ≡ answer (entryOf c)
-      → answered h t asked ≡ answer (linked (r .cluster) seq t (stepped t c))
-      → (adds (dispatcher h) t r ≡ history.adds t c) × (removes (dispatcher h) t r ≡ history.removes t c)
-  unfolding adds removes history.adds history.removes history.succeeded succeeded heldOf dispatcher
-  call-adds (bind b) seq g e named is = (rw (succeeds-shown, is, call-shown, named, e, told-step (bind b) g), rw (succeeds-shown, e))
-  call-adds (unbind b) seq g e named is = (rw (succeeds-shown, e), rw (succeeds-shown, is, call-shown, e, told-step (unbind b) g))
+  module _ (seq : ℕ) (g : Good t) where
+    bind-adds :
+        (b : Binding)
+        → r .cluster ≡ BIND-REQ
+        → mapped bindingOf (bindReqIn (r .payload)) ≡ answer b
+        → answered h t (askedOf r) ≡ answer (linked (r .cluster) seq t (stepped t (bind b)))
+        → (bindAdds (dispatcher h) t r ≡ adds t (bind b)) × (unbindRemoves (dispatcher h) t r ≡ removes t (bind b))
+    unfolding bindAdds unbindRemoves adds removes succeeded saysSuccess namedHeld heldOf dispatcher comesOf
+    bind-adds b e named is =
+        (rw (succeeds-shown, is, call-shown, call-table (r .cluster) seq (bind b) g, next-held (bind b) g, named, e, told-step (bind b) g) (added-held (step-cases t (bind b))), rw (succeeds-shown, e))
 
-  good-turn : Good t → Kind h asked → Turn
+    unbind-removes :
+        (b : Binding)
+        → r .cluster ≡ UNBIND-REQ
+        → mapped bindingOf (bindReqIn (r .payload)) ≡ answer b
+        → answered h t (askedOf r) ≡ answer (linked (r .cluster) seq t (stepped t (unbind b)))
+        → (bindAdds (dispatcher h) t r ≡ adds t (unbind b)) × (unbindRemoves (dispatcher h) t r ≡ removes t (unbind b))
+    unfolding bindAdds unbindRemoves adds removes succeeded saysSuccess namedHeld heldOf dispatcher comesOf
+    unbind-removes b e named is =
+        (rw (succeeds-shown, e), rw (succeeds-shown, is, call-shown, named, e, told-step (unbind b) g) (removed-held (step-cases t (unbind b))))
+
+    call-adds :
+        (c : Call)
+        → r .cluster ≡ clusterOf c
+        → mapped bindingOf (bindReqIn (r .payload)) ≡ answer (entryOf c)
+        → answered h t (askedOf r) ≡ answer (linked (r .cluster) seq t (stepped t c))
+        → (bindAdds (dispatcher h) t r ≡ adds t c) × (unbindRemoves (dispatcher h) t r ≡ removes t c)
+    call-adds (bind b) = bind-adds b
+    call-adds (unbind b) = unbind-removes b
+
+  good-turn : Good t → Kind h (askedOf r) → Turn
   unfolding asking
   good-turn g (idle o d e is) = idle-turn o (g .places) d e (is t g)
   good-turn g (call c seq e named is) =
-      let (add, remove) = call-adds c seq g e named (is t g) in
+      let (add, remove) = call-adds seq g c e named (is t g) in
       let (long, even) = turn t c (g .places) in
       (rw (state-after, is t g, call-table (r .cluster) seq c g) long, rw (state-after, is t g, call-table (r .cluster) seq c g, add, remove) even)
 
   request-turn : length (t .entries) ≡ 32 → Turn
-  unfolding mapped plainBytes succeeded
+  unfolding mapped plainBytes saysSuccess
   request-turn long = go (goodTable t) refl
     where
       go : (good : Bool) → goodTable t ≡ good → Turn
-      go true e = good-turn (good-table t long e) (kind h asked)
-      go false e = idle-turn (refusal 1) long (and-false (eqb (r .cluster) BIND-REQ)) (and-false (eqb (r .cluster) UNBIND-REQ)) (bad-refused h asked t e)
+      go true e = good-turn (good-table t long e) (kind h (askedOf r))
+      go false e = idle-turn (refusal 1) long (and-false (eqb (r .cluster) BIND-REQ)) (and-false (eqb (r .cluster) UNBIND-REQ)) (bad-refused h (askedOf r) t e)
 
 pub history-kept : HistoryKept
 unfolding dispatcher emptyTable
 history-kept h limit rs =
-    omega (arith, left-balanced (nextState (dispatcher h)) (λ t. t .count) (removes (dispatcher h)) (adds (dispatcher h)) (λ t. length (t .entries) ≡ 32) (request-turn h) rs (emptyTable limit) refl)
+    omega (arith, left-balanced (nextState (dispatcher h)) (λ t. t .count) (unbindRemoves (dispatcher h)) (bindAdds (dispatcher h)) (λ t. length (t .entries) ≡ 32) (request-turn h) rs (emptyTable limit) refl)
+
+-- ---- the table after requests
+
+-- the entry that a request names is one that `group` or `device` builds
+named-built : (o : Outcome BindReq) {b : Binding} → mapped bindingOf o ≡ answer b → Built b
+unfolding mapped bindingOf bindingTo
+named-built (refusal n) e = absurd (refused e)
+named-built (answer q) {b} e =
+    let is : b ≡ bindingTo (q .«src_endpoint») (q .«cluster_id») (q .destination) = cc in
+    rw is (to-built (q .«src_endpoint») (q .«cluster_id») (q .destination))
+  where
+    to-built : (endpoint cluster : ℕ) (d : BindReqDestination) → Built (bindingTo endpoint cluster d)
+    to-built endpoint cluster (Group g) = group endpoint cluster g
+    to-built endpoint cluster (Device a to) = device endpoint cluster a to
+
+-- so a call is one of built entries
+call-built : (c : Call) → Built (entryOf c) → BuiltCall c
+call-built (bind b) built = built
+call-built (unbind b) built = tt
+
+reached-request : (h : Host) (t : BindingTable) (r : Request) → Kind h (askedOf r) → Reached t → Reached (nextState (dispatcher h) t r)
+unfolding asking
+reached-request h t r (idle o _ _ is) s = rw (state-after h t r, is t (sound-good (s .sound)), kept-table) s
+reached-request h t r (call c seq _ named is) s =
+    let g = sound-good (s .sound) in
+    rw (state-after h t r, is t g, call-table (r .cluster) seq c g) (reached-next c (call-built c (named-built (bindReqIn (r .payload)) named)) s)
+
+pub reached-by-requests : ReachedByRequests
+unfolding left emptyTable
+reached-by-requests h limit l rs = left-keeps (nextState (dispatcher h)) Reached (λ t r s. reached-request h t r (kind h (askedOf r)) s) rs (reached-from-empty limit l [] tt)
 
 -- ---- matching
 
--- a reply with the status SUCCESS has the count n in byte 4
-abbrev Counts : ℕ → List ℕ → Type 0
-Counts n bytes = succeeded bytes ≡ true → byteOf bytes 4 ≡ n
+-- a reply with the status SUCCESS goes on so from byte 4 on
+abbrev Goes : List ℕ → List ℕ → Type 0
+Goes rest bytes = saysSuccess bytes ≡ true → drop 4 bytes ≡ rest
 
--- so has an outcome, where it is a reply
-unfoldable CountsIn : ℕ → Outcome (List ℕ) → Type 0
-CountsIn n (answer bytes) = Counts n bytes
-CountsIn n (refusal k) = Unit {0}
+-- so does an outcome, where it is a reply
+unfoldable GoesIn : List ℕ → Outcome (List ℕ) → Type 0
+GoesIn rest (answer bytes) = Goes rest bytes
+GoesIn rest (refusal k) = Unit {0}
 
-module _ (n : ℕ) where
+module _ (rest : List ℕ) where
   -- it is so of one or the other
-  chosen-counts : (t : Bool) (x y : Outcome (List ℕ)) → CountsIn n x → CountsIn n y → CountsIn n (cond t x y)
-  chosen-counts true x y c d = c
-  chosen-counts false x y c d = d
+  chosen-goes : (t : Bool) (x y : Outcome (List ℕ)) → GoesIn rest x → GoesIn rest y → GoesIn rest (cond t x y)
+  chosen-goes true x y c d = c
+  chosen-goes false x y c d = d
 
   -- where there is room for it
-  fitted-counts : (room : ℕ) (o : Outcome (List ℕ)) → CountsIn n o → CountsIn n (fitted room o)
-  unfolding CountsIn fitted
-  fitted-counts room (refusal k) c = tt
-  fitted-counts room (answer xs) c = chosen-counts (leb (length xs) room) (answer xs) (refusal 5) c tt
+  fitted-goes : (room : ℕ) (o : Outcome (List ℕ)) → GoesIn rest o → GoesIn rest (fitted room o)
+  unfolding GoesIn fitted
+  fitted-goes room (refusal k) c = tt
+  fitted-goes room (answer xs) c = chosen-goes (leb (length xs) room) (answer xs) (refusal 5) c tt
 
   -- where it needs bytes
-  needing-counts : {A : Type 0} (k : ℕ) (payload : List ℕ) (a : A) (next : A → Outcome (List ℕ)) → CountsIn n (next a) → CountsIn n (andThen (needing k payload a) next)
-  unfolding CountsIn needing andThen
-  needing-counts k payload a next c =
-      elim (leb k (length payload)) as (λ t. CountsIn n (andThen (cond t (answer a) (refusal 3)) next)) [ true ↦ c | false ↦ tt ]
+  needing-goes : {A : Type 0} (k : ℕ) (payload : List ℕ) (a : A) (next : A → Outcome (List ℕ)) → GoesIn rest (next a) → GoesIn rest (andThen (needing k payload a) next)
+  unfolding GoesIn needing andThen
+  needing-goes k payload a next c =
+      elim (leb k (length payload)) as (λ t. GoesIn rest (andThen (cond t (answer a) (refusal 3)) next)) [ true ↦ c | false ↦ tt ]
 
   -- where it is handed on with its cluster and a table
-  shown-counts : (cluster : ℕ) (t : BindingTable) (o : Outcome (List ℕ)) → CountsIn n o → Counts n (shown (mapped (λ bytes. reply cluster bytes t) o) .bytes)
-  unfolding CountsIn shown mapped succeeded
-  shown-counts cluster t (answer bytes) c = c
-  shown-counts cluster t (refusal k) c = λ e. absurd (false≢true e)
+  shown-goes : (cluster : ℕ) (t : BindingTable) (o : Outcome (List ℕ)) → GoesIn rest o → Goes rest (shown (mapped (λ bytes. reply cluster bytes t) o) .bytes)
+  unfolding GoesIn shown mapped saysSuccess
+  shown-goes cluster t (answer bytes) c = c
+  shown-goes cluster t (refusal k) c = λ e. absurd (false≢true e)
 
   -- an error of match does not succeed
-  error-counts : (seq : ℕ) (type : LogicalType) → CountsIn n (matchDescRspError seq (notOurs type))
-  unfolding CountsIn matchDescRspError matchErrorFields notOurs laid le succeeded
-  error-counts seq Coordinator e = absurd (false≢true e)
-  error-counts seq Router e = absurd (false≢true e)
-  error-counts seq EndDevice e = absurd (false≢true e)
-  error-counts seq (Reserved k) e = absurd (false≢true e)
+  error-goes : (seq : ℕ) (type : LogicalType) → GoesIn rest (matchDescRspError seq (notOurs type))
+  unfolding GoesIn matchDescRspError matchErrorFields notOurs laid le saysSuccess
+  error-goes seq Coordinator e = absurd (false≢true e)
+  error-goes seq Router e = absurd (false≢true e)
+  error-goes seq EndDevice e = absurd (false≢true e)
+  error-goes seq (Reserved k) e = absurd (false≢true e)
 
--- a list of at most 32 numbers has its length there
-list-counts : (seq : ℕ) (address : ShortAddress) (xs : List ℕ) → length xs ≤ 32 → CountsIn (length xs) (listRsp seq address xs)
-unfolding CountsIn listRsp header endpointList laid le
-list-counts seq address xs few e = mod-eq-of-lt (omega arith) ∙ omega arith
+-- numbers, each as a byte
+bytes-laid : (xs : List ℕ) → laid (map byte xs) ≡ map (λ x. x % 256) xs
+unfolding laid le
+bytes-laid [] = refl
+bytes-laid (x ∷ xs) = rw (bytes-laid xs)
+
+-- a list of at most 32 numbers: its length, and the numbers
+list-goes : (seq : ℕ) (address : ShortAddress) (xs : List ℕ) → length xs ≤ 32 → GoesIn (length xs ∷ map (λ x. x % 256) xs) (listRsp seq address xs)
+unfolding GoesIn listRsp header endpointList laid le
+list-goes seq address xs few e =
+    let count : min (length xs) 255 % 256 ≡ length xs = mod-eq-of-lt (omega arith) ∙ omega arith in
+    rw (count, bytes-laid xs)
 
 -- so it is of a match reply, about us and not
-about-counts :
+about-goes :
     (type : LogicalType) (own address : ShortAddress) (seq : ℕ) (xs : List ℕ)
     → length xs ≤ 32
-    → CountsIn (length xs) (about type own address (listRsp seq address xs) (λ status. matchDescRspError seq status))
+    → GoesIn (length xs ∷ map (λ x. x % 256) xs) (about type own address (listRsp seq address xs) (λ status. matchDescRspError seq status))
 unfolding about
-about-counts type own address seq xs few =
-    chosen-counts (length xs) (sameShort address own) _ _ (list-counts seq address xs few) (error-counts (length xs) seq type)
+about-goes type own address seq xs few =
+    chosen-goes (length xs ∷ map (λ x. x % 256) xs) (sameShort address own) _ _ (list-goes seq address xs few) (error-goes (length xs ∷ map (λ x. x % 256) xs) seq type)
+
+-- what is to go on from there
+abbrev found-list : Host → List ℕ → List ℕ
+found-list h payload = length (matched h payload) ∷ map (λ e. e .endpoint % 256) (matched h payload)
 
 -- a match request to a host with good tables
-match-counts : (h : Host) (payload : List ℕ) → goodHost h ≡ true → CountsIn (matching h payload) (discovery h MATCH-DESC-REQ payload)
-unfolding discovery onMatch goodHost matching matchList resolved
-match-counts h payload good =
+match-goes : (h : Host) (payload : List ℕ) → goodHost h ≡ true → GoesIn (found-list h payload) (discovery h MATCH-DESC-REQ payload)
+unfolding discovery onMatch goodHost matched matchList resolved
+match-goes h payload good =
     let w : Wanted = lookedFor payload in
     let xs : List Endpoint = filter (matches w) (resolved h) in
     let long : length (matchList w (resolved h)) ≡ length xs = length-map xs (λ e. e .endpoint) in
-    rw (match-read, ← long)
-    (needing-counts _ (matchBytes payload) payload _ _
-    (rw wanted-read (about-counts _ _ _ _ (matchList w (resolved h)) (matches-few w (h .pools) (h .device) good))))
+    let numbers : map (λ x. x % 256) (matchList w (resolved h)) ≡ map (λ e. e .endpoint % 256) xs = map-map (λ x. x % 256) (λ e. e .endpoint) xs in
+    rw (match-read, ← long, ← numbers)
+    (needing-goes _ (matchBytes payload) payload _ _
+    (rw wanted-read (about-goes _ _ _ _ (matchList w (resolved h)) (matches-few w (h .pools) (h .device) good))))
 
 -- so it is, whatever the tables
-seen-counts : (h : Host) (t : BindingTable) (a : Asked) → a .cluster ≡ MATCH-DESC-REQ → Counts (matching h (a .payload)) (shown (answered h t a) .bytes)
-unfolding answered byCluster discovered shown succeeded
-seen-counts h t a e = go (goodHost h) (goodTable t) refl refl
+seen-goes : (h : Host) (t : BindingTable) (a : Asked) → a .cluster ≡ MATCH-DESC-REQ → Goes (found-list h (a .payload)) (shown (answered h t a) .bytes)
+unfolding answered byCluster discovered shown saysSuccess
+seen-goes h t a e = go (goodHost h) (goodTable t) refl refl
   where
-    go : (p q : Bool) → goodHost h ≡ p → goodTable t ≡ q → Counts (matching h (a .payload)) (shown (answered h t a) .bytes)
-    go true true d f = rw (d, f, e) (shown-counts _ _ t _ (fitted-counts _ (a .room) _ (match-counts h (a .payload) d)))
+    go : (p q : Bool) → goodHost h ≡ p → goodTable t ≡ q → Goes (found-list h (a .payload)) (shown (answered h t a) .bytes)
+    go true true d f = rw (d, f, e) (shown-goes _ _ t _ (fitted-goes _ (a .room) _ (match-goes h (a .payload) d)))
     go true false d f = rw (d, f) (λ no. absurd (false≢true no))
     go false q d f = rw d (λ no. absurd (false≢true no))
 
 pub matching-kept : MatchingKept
-unfolding served asking
-matching-kept h t r e = rw seen-shown (seen-counts h t (asking (r .cluster) (r .payload) (r .buffer)) e)
+unfolding asking
+matching-kept h t r e = rw seen-shown (seen-goes h t (askedOf r) e)

@@ -1,9 +1,10 @@
 -- What each step keeps is so after all of them: of a state, of two states, and of a count. Assumes nothing.
-use Prim.Native.Nat.{ℕ, _+_}
+use Prim.Native.Nat.{ℕ, suc, _+_}
 use native.Mathlib.Omega.{arith}
-use mathlib.Core.Path.{_≡_, refl}
+use mathlib.Core.Path.{_≡_, refl, ap}
 use mathlib.Core.Bool.{Bool}
-use mathlib.Core.List.{List, [], _∷_}
+use mathlib.Core.List.{List, [], _∷_, map}
+use lib.ListN.{length}
 use Rattle.zigbee_types.specs.Bytes.{bit}
 use Rattle.demands.specs.Runs.{left, howMany}
 
@@ -14,16 +15,22 @@ module _ {S C : Type 0} (step : S → C → S) where
   left-keeps P keeps [] p = p
   left-keeps P keeps (c ∷ cs) {s} p = left-keeps P keeps cs (keeps s c p)
 
-  -- and of two states, the same step being made in both
-  pub left-both :
-      (R : S → S → Type 0)
-      → ((s u : S) (c : C) → R s u → R (step s c) (step u c))
-      → (cs : List C) {s u : S}
+  -- and of two states, where the steps made in them are the same as far as f sees
+  pub left-alike :
+      {D : Type 0} (f : C → D) (R : S → S → Type 0)
+      → ((s u : S) (c d : C) → f c ≡ f d → R s u → R (step s c) (step u d))
+      → (cs ds : List C) {s u : S}
+      → map f cs ≡ map f ds
       → R s u
-      → R (left step s cs) (left step u cs)
+      → R (left step s cs) (left step u ds)
   unfolding left
-  left-both R keeps [] r = r
-  left-both R keeps (c ∷ cs) {s} {u} r = left-both R keeps cs (keeps s u c r)
+  left-alike f R keeps [] [] e r = r
+  left-alike f R keeps [] (d ∷ ds) e r = absurd (let z : _≡_ {A = ℕ} 0 (suc (length (map f ds))) = ap length e in omega arith)
+  left-alike f R keeps (c ∷ cs) [] e r = absurd (let z : _≡_ {A = ℕ} (suc (length (map f cs))) 0 = ap length e in omega arith)
+  left-alike f R keeps (c ∷ cs) (d ∷ ds) {s} {u} e r =
+      let first : f c ≡ f d = cc in
+      let rest : map f cs ≡ map f ds = cc in
+      left-alike f R keeps cs ds rest (keeps s u c d first r)
 
   module _ (count : S → ℕ) (removes adds : S → C → Bool) where
     -- what a step removes and what it adds make the count

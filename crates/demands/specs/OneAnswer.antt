@@ -31,9 +31,9 @@ Determines {A} says = (a b : A) → says a ≡ says b → a ≡ b
 abbrev pub OneSaid : Type 1
 OneSaid = (A B : Type 0) (says : A → B) → Determines says → (o : B) (r s : A) → says r ≡ o → says s ≡ o → r ≡ s
 
--- each enum by which a public function answers or refuses (that of a read line is in `OneLineRead`), or that holds a record or a number
--- or none, is determined so; a writer's contract determines its answer and the buffer, so does matching's, a bind's or an
--- unbind's its answer and its table, and the dispatcher's all three
+-- Each enum by which a public function answers or refuses, or that holds a record or a number or none, is determined by what it says.
+-- (That of a read line is in `OneLineRead`.) A writer's contract determines its answer and the buffer, and so does matching's; that of a
+-- bind or an unbind its answer and its table; and the dispatcher's all three.
 pub record OneAnswer : Type 0 where
   pub written : Determines writtenSays
   pub lists : Determines listsSays

@@ -21,7 +21,7 @@ refusalOf (refusal n) = some n
 abbrev pub malformedIf : Bool → Option ℕ
 malformedIf b = cond b (some 3) none
 
--- byte i of a reply, counted from 0; 0 where there is none
+-- byte i of a reply or a payload, counted from 0; 0 where there is none
 abbrev pub byteOf : List ℕ → ℕ → ℕ
 byteOf reply i = getD reply i 0
 
