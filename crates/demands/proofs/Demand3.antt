@@ -1,25 +1,24 @@
 -- Our server, with more room, loses no binding: a request that is a call does to the table what the call does, and any other does
 -- nothing. Assumes nothing.
 use Prim.Native.Nat.{ℕ, _%_, _≤_}
-use mathlib.Core.Path.{_≡_, refl, sym, _∙_}
+use mathlib.Core.Path.{_≡_, refl, sym}
 use mathlib.Core.Bool.{false≢true}
-use mathlib.Core.List.{List, [], _∷_, map}
+use mathlib.Core.List.{List, [], map}
 use Rattle.zigbee_types.specs.Lists.{any}
 use Rattle.zigbee_types.specs.Outcome.{Outcome, answer, refusal, mapped}
-use Rattle.zigbee_types.specs.Statuses.{SUCCESS, NO-ENTRY, TABLE-FULL}
 use Rattle.aps_binding.specs.declared.binding.Binding.{Binding}
 use Rattle.aps_binding_table.specs.Held.{Step}
-use Rattle.aps_binding_table.specs.Table.{emptyTable, held, placed}
+use Rattle.aps_binding_table.specs.Table.{emptyTable}
 use Rattle.aps_binding_table.specs.declared.binding.BindingTable.{BindingTable}
 use Rattle.aps_binding_table.proofs.Good.{Good}
 use Rattle.zdo_requests.specs.Clusters.{replyCluster}
 use Rattle.zdo_discovery.specs.Host.{Host, Asked, asking}
-use Rattle.zdo_dispatcher.specs.Answers.{Told, replied, answered, tableAfter}
-use Rattle.demands.specs.Calls.{Call, bind, unbind, told, next}
+use Rattle.zdo_dispatcher.specs.Answers.{replied, answered, tableAfter}
+use Rattle.demands.specs.Calls.{Call, next}
 use Rattle.demands.specs.Order.{Agree, equal, room, kept}
 use Rattle.demands.specs.Demand1.{among}
-use Rattle.demands.specs.Servers.{Request, askedOf, nextState, stateAfter, comesOf, dispatcher, Seen, seen}
-use Rattle.demands.specs.Demand3.{Alike, Ahead, MoreRoom, SuccessStays, OthersSame}
+use Rattle.demands.specs.Servers.{Request, askedOf, nextState, stateAfter, withTable, comesOf, dispatcher, Seen, seen}
+use Rattle.demands.specs.Demand3.{Alike, MoreRoom, SuccessStays, OthersSame}
 use Rattle.demands.specs.Demand3 as alike
 use Rattle.demands.proofs.Runs.{left-alike}
 use Rattle.demands.proofs.Calls.{stepped, Stepped, again, full, added, removed, absent, step-cases, told-step, next-placed}
@@ -94,7 +93,7 @@ module _ (h : Host) {t u : BindingTable} (b : Behind t u) (a : Asked) where
 module _ (h : Host) where
   -- what is so between two tables stays so, whatever is asked
   pub behind-state : (t u : BindingTable) (r q : Request) → askedOf r ≡ askedOf q → Behind t u → Behind (nextState (dispatcher h) t r) (nextState (dispatcher h) u q)
-  unfolding dispatcher comesOf
+  unfolding withTable dispatcher comesOf
   behind-state t u r q e b = rw (← e) (behind-request h b (askedOf r) (kind h (askedOf r)))
 
   -- and is what demand 3 says
@@ -113,7 +112,7 @@ module _ (h : Host) where
   behind-run less more e l rs us same = left-alike (nextState (dispatcher h)) askedOf Behind behind-state rs us same (behind-empty less more e l)
 
 pub more-room : MoreRoom
-unfolding dispatcher
+unfolding withTable dispatcher
 more-room h less more e l rs us same =
     let b = behind-run h less more e l rs us same in
     record { entries = behind-ordered b .entries; answers = behind-alike h b }

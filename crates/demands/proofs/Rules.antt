@@ -1,6 +1,6 @@
 -- Discovery replies do not depend on the binding table, the count of the table is the binds that added less the unbinds that
 -- removed, the table stays sound, and a match reply has the numbers of those that match. Assumes nothing.
-use Prim.Native.Nat.{ℕ, _+_, _%_, _≤_, _<_, min}
+use Prim.Native.Nat.{ℕ, _%_, _≤_, min}
 use native.Mathlib.Nat.{mod-eq-of-lt}
 use native.Mathlib.Omega.{arith}
 use mathlib.Core.Path.{_≡_, refl, sym, _∙_}
@@ -8,7 +8,7 @@ use mathlib.Core.Bool.{Bool, true, false, _&&_, not, cond, and-true, and-false, 
 use mathlib.Core.List.{List, [], _∷_, map, map-map}
 use lib.Dec.{eqb, leb}
 use lib.ListN.{length, drop, length-map}
-use borrow.Author.Tests.{eqb-true, leb-true}
+use borrow.Author.Tests.{eqb-true}
 use Rattle.zigbee_types.specs.Outcome.{Outcome, answer, refusal, andThen, mapped, needing, fitted}
 use Rattle.zigbee_types.specs.Bytes.{le, bit}
 use Rattle.zigbee_types.specs.Layout.{byte, laid}
@@ -21,7 +21,7 @@ use Rattle.node_descriptor.specs.declared.LogicalType.{LogicalType}
 use Rattle.node_descriptor.specs.declared.LogicalType.the-variants.{Coordinator, Router, EndDevice, Reserved}
 use Rattle.aps_binding.specs.declared.binding.Binding.{Binding}
 use Rattle.aps_binding_table.specs.Held.{Step, holds}
-use Rattle.aps_binding_table.specs.Table.{emptyTable, goodTable, held}
+use Rattle.aps_binding_table.specs.Table.{emptyTable, goodTable}
 use Rattle.aps_binding_table.specs.declared.binding.BindingTable.{BindingTable}
 use Rattle.aps_binding_table.proofs.Good.{Good, good-table}
 use Rattle.aps_binding_table.proofs.Holds.{last-held}
@@ -41,7 +41,7 @@ use Rattle.demands.specs.Runs.{left}
 use Rattle.demands.specs.Calls.{Call, bind, unbind, told, next}
 use Rattle.demands.specs.History.{succeeded, adds, removes}
 use Rattle.demands.specs.Reached.{Built, group, device, BuiltCall, Reached}
-use Rattle.demands.specs.Servers.{Request, askedOf, nextState, comesOf, dispatcher, seen}
+use Rattle.demands.specs.Servers.{Request, askedOf, nextState, withTable, comesOf, dispatcher}
 use Rattle.demands.specs.Demand1.{discoveryClusters, among, matchBytes, lookedFor, matched}
 use Rattle.demands.specs.Rules.{Isolated, Isolation, saysSuccess, heldOf, namedHeld, succeedsAs, bindAdds, unbindRemoves, HistoryKept, ReachedByRequests, MatchingKept}
 use Rattle.demands.proofs.Runs.{left-keeps, Balanced, left-balanced}
@@ -64,14 +64,22 @@ none-of clusters k cluster out is = go (eqb cluster k) refl
     go true e = absurd (false≢true (sym out ∙ rw (eqb-true cluster k e) at is))
 
 -- so a discovery request is answered without a good table, which stays
-found : (h : Host) (t : BindingTable) (a : Asked) → goodTable t ≡ true → among discoveryClusters (a .cluster) ≡ true → answered h t a ≡ cond (goodHost h) (mapped (λ bytes. reply (replyCluster (a .cluster)) bytes t) (discovered h a)) (refusal 1)
+found :
+    (h : Host) (t : BindingTable) (a : Asked)
+    → goodTable t ≡ true
+    → among discoveryClusters (a .cluster) ≡ true
+    → answered h t a ≡ cond (goodHost h) (mapped (λ bytes. reply (replyCluster (a .cluster)) bytes t) (discovered h a)) (refusal 1)
 unfolding answered byCluster among any
 found h t a good is =
     let other : (k : ℕ) → among discoveryClusters k ≡ false → eqb (a .cluster) k ≡ false = λ k out. none-of discoveryClusters k (a .cluster) out is in
     rw (good, and-true, other BIND-REQ refl, other UNBIND-REQ refl, other MGMT-LEAVE-REQ refl)
 
 -- and shows the same of any two
-isolated : (h : Host) (t u : BindingTable) (a : Asked) (before : List ℕ) (good : Bool) (o : Outcome (List ℕ)) → answered h t a ≡ cond good (mapped (λ bytes. reply (replyCluster (a .cluster)) bytes t) o) (refusal 1) → answered h u a ≡ cond good (mapped (λ bytes. reply (replyCluster (a .cluster)) bytes u) o) (refusal 1) → Isolated h t u a before
+isolated :
+    (h : Host) (t u : BindingTable) (a : Asked) (before : List ℕ) (good : Bool) (o : Outcome (List ℕ))
+    → answered h t a ≡ cond good (mapped (λ bytes. reply (replyCluster (a .cluster)) bytes t) o) (refusal 1)
+    → answered h u a ≡ cond good (mapped (λ bytes. reply (replyCluster (a .cluster)) bytes u) o) (refusal 1)
+    → Isolated h t u a before
 unfolding mapped toldOf tableAfter bufferAfter
 isolated h t u a before false o d e = record { told = rw (d, e); buffer = rw (d, e); first = rw d; second = rw e }
 isolated h t u a before true (refusal n) d e = record { told = rw (d, e); buffer = rw (d, e); first = rw d; second = rw e }
@@ -109,7 +117,7 @@ removed-held (absent b h) = refl
 module _ (h : Host) (t : BindingTable) (r : Request) where
   -- the table after a request is that of the outcome
   state-after : nextState (dispatcher h) t r ≡ tableAfter t (answered h t (askedOf r))
-  unfolding dispatcher comesOf
+  unfolding withTable dispatcher comesOf
   state-after = refl
 
   -- and whether it succeeds is seen of the outcome
@@ -135,41 +143,25 @@ module _ (h : Host) (t : BindingTable) (r : Request) where
   idle-turn o long d e is = (rw (state-after, is, kept-table) long, rw (state-after, succeeds-shown, succeeds-shown, is, kept-table, plain-shown, d, e))
 
   -- a call adds and removes what the table's own function does
-  module _ (seq : ℕ) (g : Good t) where
-    bind-adds :
-        (b : Binding)
-        → r .cluster ≡ BIND-REQ
-        → mapped bindingOf (bindReqIn (r .payload)) ≡ answer b
-        → answered h t (askedOf r) ≡ answer (linked (r .cluster) seq t (stepped t (bind b)))
-        → (bindAdds (dispatcher h) t r ≡ adds t (bind b)) × (unbindRemoves (dispatcher h) t r ≡ removes t (bind b))
-    unfolding bindAdds unbindRemoves adds removes succeeded saysSuccess namedHeld heldOf dispatcher comesOf
-    bind-adds b e named is =
-        (rw (succeeds-shown, is, call-shown, call-table (r .cluster) seq (bind b) g, next-held (bind b) g, named, e, told-step (bind b) g) (added-held (step-cases t (bind b))), rw (succeeds-shown, e))
-
-    unbind-removes :
-        (b : Binding)
-        → r .cluster ≡ UNBIND-REQ
-        → mapped bindingOf (bindReqIn (r .payload)) ≡ answer b
-        → answered h t (askedOf r) ≡ answer (linked (r .cluster) seq t (stepped t (unbind b)))
-        → (bindAdds (dispatcher h) t r ≡ adds t (unbind b)) × (unbindRemoves (dispatcher h) t r ≡ removes t (unbind b))
-    unfolding bindAdds unbindRemoves adds removes succeeded saysSuccess namedHeld heldOf dispatcher comesOf
-    unbind-removes b e named is =
-        (rw (succeeds-shown, e), rw (succeeds-shown, is, call-shown, named, e, told-step (unbind b) g) (removed-held (step-cases t (unbind b))))
-
-    call-adds :
-        (c : Call)
-        → r .cluster ≡ clusterOf c
-        → mapped bindingOf (bindReqIn (r .payload)) ≡ answer (entryOf c)
-        → answered h t (askedOf r) ≡ answer (linked (r .cluster) seq t (stepped t c))
-        → (bindAdds (dispatcher h) t r ≡ adds t c) × (unbindRemoves (dispatcher h) t r ≡ removes t c)
-    call-adds (bind b) = bind-adds b
-    call-adds (unbind b) = unbind-removes b
+  call-adds :
+      (c : Call) (seq : ℕ)
+      → Good t
+      → r .cluster ≡ clusterOf c
+      → mapped bindingOf (bindReqIn (r .payload)) ≡ answer (entryOf c)
+      → answered h t (askedOf r) ≡ answer (linked (r .cluster) seq t (stepped t c))
+      → (bindAdds (dispatcher h) t r ≡ adds t c) × (unbindRemoves (dispatcher h) t r ≡ removes t c)
+  unfolding bindAdds unbindRemoves adds removes succeeded saysSuccess namedHeld heldOf withTable dispatcher comesOf
+  call-adds (bind b) seq g e named is =
+      let left = call-table (r .cluster) seq (bind b) g in
+      (rw (succeeds-shown, is, call-shown, left, next-held (bind b) g, named, e, told-step (bind b) g) (added-held (step-cases t (bind b))), rw (succeeds-shown, e))
+  call-adds (unbind b) seq g e named is =
+      (rw (succeeds-shown, e), rw (succeeds-shown, is, call-shown, named, e, told-step (unbind b) g) (removed-held (step-cases t (unbind b))))
 
   good-turn : Good t → Kind h (askedOf r) → Turn
   unfolding asking
   good-turn g (idle o d e is) = idle-turn o (g .places) d e (is t g)
   good-turn g (call c seq e named is) =
-      let (add, remove) = call-adds seq g c e named (is t g) in
+      let (add, remove) = call-adds c seq g e named (is t g) in
       let (long, even) = turn t c (g .places) in
       (rw (state-after, is t g, call-table (r .cluster) seq c g) long, rw (state-after, is t g, call-table (r .cluster) seq c g, add, remove) even)
 
@@ -182,9 +174,10 @@ module _ (h : Host) (t : BindingTable) (r : Request) where
       go false e = idle-turn (refusal 1) long (and-false (eqb (r .cluster) BIND-REQ)) (and-false (eqb (r .cluster) UNBIND-REQ)) (bad-refused h (askedOf r) t e)
 
 pub history-kept : HistoryKept
-unfolding dispatcher emptyTable
+unfolding withTable dispatcher emptyTable
 history-kept h limit rs =
-    omega (arith, left-balanced (nextState (dispatcher h)) (λ t. t .count) (unbindRemoves (dispatcher h)) (bindAdds (dispatcher h)) (λ t. length (t .entries) ≡ 32) (request-turn h) rs (emptyTable limit) refl)
+    let ours = dispatcher h in
+    omega (arith, left-balanced (nextState ours) (λ t. t .count) (unbindRemoves ours) (bindAdds ours) (λ t. length (t .entries) ≡ 32) (request-turn h) rs (emptyTable limit) refl)
 
 -- ---- the table after requests
 

@@ -2,16 +2,16 @@
 use Prim.Native.Nat.{ℕ}
 use mathlib.Core.Path.{_≡_, refl}
 use mathlib.Core.List.{List, []}
-use lib.ListN.{length, drop}
+use lib.ListN.{length}
 use lib.Seq.{take-append-seam}
 use Rattle.zigbee_types.specs.Outcome.{Outcome, answer, refusal, mapped, written}
 use Rattle.aps_binding_table.specs.declared.binding.BindingTable.{BindingTable}
 use Rattle.zdo_discovery.specs.Host.{Host}
 use Rattle.zdo_dispatcher.specs.Answers.{Answer, reply, leave, replied, leaving, toldOf, answered, bufferAfter}
-use Rattle.demands.specs.Servers.{Request, askedOf, comesOf, dispatcher, bytesOf, Seen, seen, OursDispatches}
+use Rattle.demands.specs.Servers.{Request, askedOf, withTable, comesOf, dispatcher, bytesOf, Seen, seen, OursDispatches}
 
 pub ours-dispatches : OursDispatches
-unfolding dispatcher comesOf
+unfolding withTable dispatcher comesOf
 ours-dispatches h t r told u after d = λ i. record { told = d .said i; buffer = d .buffer i; state = d .table i }
 
 -- ---- what is seen
@@ -41,5 +41,5 @@ shown-seen t r (answer (leave q)) = refl
 shown-seen t r (refusal n) = refl
 
 pub seen-shown : (h : Host) (t : BindingTable) (r : Request) → seen (dispatcher h .serve t r) ≡ shown (answered h t (askedOf r))
-unfolding dispatcher
+unfolding withTable dispatcher
 seen-shown h t r = shown-seen t r (answered h t (askedOf r))

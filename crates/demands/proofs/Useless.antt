@@ -1,13 +1,10 @@
 -- Five useless servers meet demand 3 and differ from ours, one with invented counts breaks two rules, and one breaks demand 3. Assumes
 -- nothing.
-use Prim.Native.Nat.{ℕ, _+_, _*_, _≤_}
+use Prim.Native.Nat.{ℕ}
 use native.Mathlib.Omega.{arith}
 use mathlib.Core.Path.{_≡_, refl, ap}
-use mathlib.Core.Bool.{Bool, true, false, _&&_, cond, false≢true}
-use mathlib.Core.List.{List, [], _∷_, _++_}
-use lib.Dec.{eqb}
-use lib.ListN.{length, take, drop}
-use borrow.Author.Tests.{eqb-true}
+use mathlib.Core.Bool.{Bool, true, false, false≢true}
+use mathlib.Core.List.{List, [], _∷_}
 use Rattle.zigbee_types.specs.Lists.{all, any, filter, find, option}
 use Rattle.zigbee_types.specs.Outcome.{Outcome, answer, refusal, andThen, mapped, needing, fitted, written}
 use Rattle.zigbee_types.specs.Bytes.{le, number, numberAt, bit}
@@ -18,7 +15,7 @@ use Rattle.aps_binding.specs.Entry.{zeroBinding, key, alike, same}
 use Rattle.aps_binding_table.specs.Held.{Step, holds, boundAs, bound}
 use Rattle.aps_binding_table.specs.Table.{emptyTable, goodTable, held, placed}
 use Rattle.aps_binding_table.specs.declared.binding.BindingTable.{BindingTable}
-use Rattle.aps_binding_table.proofs.Good.{good-tested, count-fits}
+use Rattle.aps_binding_table.proofs.Good.{count-fits}
 use Rattle.zdo_requests.specs.Clusters.{MATCH-DESC-REQ, replyCluster}
 use Rattle.zdo_requests.specs.Requests.{addrOfInterestWidths, addrOfInterestReqIn, matchWidths, matchReqOf, matchDescReqIn, bindWidths, bindReqOf, groupIn, destinationIn, bindReqIn, bindingTo, bindingOf}
 use Rattle.zdo_replies.specs.Replies.{header, nodeDescRsp, endpointList, listRsp, statusFields, statusRsp}
@@ -31,9 +28,9 @@ use Rattle.our_device.specs.OurDevice.{ours}
 use Rattle.demands.specs.ReadersRefuse.{byteOf}
 use Rattle.demands.specs.Runs.{left, howMany}
 use Rattle.demands.specs.Calls.{Call, bind, unbind}
-use Rattle.demands.specs.Servers.{Request, askedOf, nextState, comesOf, dispatcher, bytesOf, Seen, seen}
-use Rattle.demands.specs.Demand1.{among, linkClusters, lookedFor, matched}
-use Rattle.demands.specs.Demand3.{Alike, equal, room, kept, Ahead, Demand3}
+use Rattle.demands.specs.Servers.{Request, askedOf, nextState, withTable, comesOf, dispatcher, bytesOf, Seen, seen}
+use Rattle.demands.specs.Demand1.{among, lookedFor, matched}
+use Rattle.demands.specs.Demand3.{Alike, equal, room, kept, Demand3}
 use Rattle.demands.specs.Rules.{saysSuccess, heldOf, namedHeld, succeedsAs, bindAdds, unbindRemoves}
 use Rattle.demands.specs.Useless.{holdingNothing, refusing, fixed, full, tellingLimit, withoutBytes, silent, sealed, once, withNine, inventing, requesting, nodeRequest, nodeReply, bindRequestA, UselessVersions, InventedCount, LimitTold}
 use Rattle.demands.proofs.Runs.{left-alike}
@@ -79,7 +76,7 @@ no-bytes (refusal n) buffer = refl
 
 -- so one that tells what ours tells, without the bytes, meets it
 silent-meets : (h : Host) → Demand3 (silent h)
-unfolding silent dispatcher comesOf seen
+unfolding silent withTable dispatcher comesOf seen
 silent-meets h less more e l rs us is =
     let ours = more-room h less more e l rs us is in
     record { entries = ours .entries; answers = λ r u asks. rw (no-bytes, no-bytes, alike-told (ours .answers r u asks)) (equal _) }
@@ -91,7 +88,7 @@ behind-sealed {t} {u} b = behind-limited (t .count) (u .count) b (omega arith) (
 
 -- so one that is left so after each call meets it
 once-meets : (h : Host) → Demand3 (once h)
-unfolding once seen
+unfolding withTable once seen
 once-meets h less more e l rs us is =
     let b = left-alike (nextState (once h)) askedOf Behind (λ t u r q asks s. behind-sealed (behind-state h t u r q asks s)) rs us is (behind-empty less more e l) in
     record { entries = behind-ordered b .entries; answers = behind-alike h b }
@@ -129,7 +126,7 @@ inventing-alike h {t} {u} b r q is =
     rw (shown-seen t r (withNine (answered h t (askedOf r))), shown-seen u q (withNine (answered h u (askedOf q))), ← is) (nine-alike h b (askedOf r) (kind h (askedOf r)))
 
 inventing-state : (h : Host) (t u : BindingTable) (r q : Request) → askedOf r ≡ askedOf q → Behind t u → Behind (nextState (inventing h) t r) (nextState (inventing h) u q)
-unfolding inventing dispatcher comesOf
+unfolding inventing withTable dispatcher comesOf
 inventing-state h t u r q is b = rw (nine-table, nine-table) (behind-state h t u r q is b)
 
 inventing-meets : (h : Host) → Demand3 (inventing h)
@@ -150,7 +147,7 @@ abbrev byteSeen : ℕ → Seen → ℕ
 byteSeen i s = byteOf (s .bytes) i
 
 pub useless-versions : UselessVersions
-unfolding all any find option andThen mapped needing fitted written le number numberAt laid size fieldsAt parsed nodeByte0 nodeByte1 nodeDescriptor zeroBinding key alike same holds boundAs bound emptyTable goodTable held placed addrOfInterestWidths addrOfInterestReqIn bindWidths bindReqOf groupIn destinationIn bindReqIn bindingTo bindingOf header nodeDescRsp statusFields statusRsp used endpointRecord supportsEndpoint recordFits goodSizes goodRecords goodDevice asking goodHost about onNode discovery discovered stepOf sourceStatus linkStep linkAnswer onLink byCluster answered tableAfter bufferAfter toldOf left comesOf dispatcher bytesOf seen holdingNothing refusing fixed full withoutBytes silent sealed once
+unfolding all any find option andThen mapped needing fitted written le number numberAt laid size fieldsAt parsed nodeByte0 nodeByte1 nodeDescriptor zeroBinding key alike same holds boundAs bound emptyTable goodTable held placed addrOfInterestWidths addrOfInterestReqIn bindWidths bindReqOf groupIn destinationIn bindReqIn bindingTo bindingOf header nodeDescRsp statusFields statusRsp used endpointRecord supportsEndpoint recordFits goodSizes goodRecords goodDevice asking goodHost about onNode discovery discovered stepOf sourceStatus linkStep linkAnswer onLink byCluster answered tableAfter bufferAfter toldOf left comesOf withTable dispatcher bytesOf seen holdingNothing refusing fixed full withoutBytes silent sealed once
 useless-versions =
     record {
       refuses = λ n. record { meets = λ h. nothing-meets (λ a. 0) (λ a. refusal n); differs = λ e. false≢true (ap (λ s. isAnswer (s .told)) e) };

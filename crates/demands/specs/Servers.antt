@@ -44,6 +44,10 @@ module _ {S : Type 0} (s : Server S) where
   abbrev pub stateAfter : S → List Request → S
   stateAfter = left nextState
 
+-- a server that has a binding table as its state, and serves so
+unfoldable pub withTable : (BindingTable → Request → Served BindingTable) → Server BindingTable
+withTable serve = record { empty = emptyTable; entries = held; count = λ t. t .count; serve = serve }
+
 -- ---- ours
 
 -- what comes of a request on a table, where it comes to this outcome
@@ -52,8 +56,7 @@ comesOf t r o = record { told = mapped toldOf o; buffer = bufferAfter (r .buffer
 
 -- our server, for a host: what the contract of `dispatch` says of any request
 unfoldable pub dispatcher : Host → Server BindingTable
-dispatcher h =
-    record { empty = emptyTable; entries = held; count = λ t. t .count; serve = λ t r. comesOf t r (answered h t (askedOf r)) }
+dispatcher h = withTable (λ t r. comesOf t r (answered h t (askedOf r)))
 
 -- whatever that contract permits is what our server does
 abbrev pub OursDispatches : Type 0

@@ -16,7 +16,7 @@ use Rattle.zdo_dispatcher.specs.Answers.{Answer, reply, leave, Told, replied, l
 use Rattle.our_device.specs.OurDevice.{ours}
 use Rattle.demands.specs.Cases.{bindA, bindB}
 use Rattle.demands.specs.ReadersRefuse.{byteOf}
-use Rattle.demands.specs.Servers.{Request, askedOf, Server, stateAfter, comesOf, dispatcher, seen}
+use Rattle.demands.specs.Servers.{Request, askedOf, Server, stateAfter, withTable, comesOf, dispatcher, seen}
 use Rattle.demands.specs.Demand3.{Demand3}
 use Rattle.demands.specs.Rules.{saysSuccess, HistoryRule, MatchingRule}
 
@@ -61,14 +61,9 @@ withoutBytes (leaving q) = leaving q
 -- it binds as ours binds, and writes nothing: its replies have no bytes, and the buffer stays
 unfoldable pub silent : Host → Server BindingTable
 silent h =
-    record {
-      empty = emptyTable;
-      entries = held;
-      count = λ t. t .count;
-      serve = λ t r.
-          let s = dispatcher h .serve t r in
-          record { told = mapped withoutBytes (s .told); buffer = r .buffer; state = s .state };
-    }
+    withTable (λ t r.
+    let s = dispatcher h .serve t r in
+    record { told = mapped withoutBytes (s .told); buffer = r .buffer; state = s .state })
 
 -- a table that has no room left
 unfoldable pub sealed : BindingTable → BindingTable
@@ -77,14 +72,9 @@ sealed t = record { entries = t .entries; limit = t .count; count = t .count }
 -- it is as ours, but binds only at the first call: after each call its table has no room left
 unfoldable pub once : Host → Server BindingTable
 once h =
-    record {
-      empty = emptyTable;
-      entries = held;
-      count = λ t. t .count;
-      serve = λ t r.
-          let s = dispatcher h .serve t r in
-          record { told = s .told; buffer = s .buffer; state = sealed (s .state) };
-    }
+    withTable (λ t r.
+    let s = dispatcher h .serve t r in
+    record { told = s .told; buffer = s .buffer; state = sealed (s .state) })
 
 -- a match reply with the status SUCCESS, with nine in byte 4; any other outcome is as it was
 unfoldable pub withNine : Outcome Answer → Outcome Answer
