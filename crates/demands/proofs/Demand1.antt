@@ -44,27 +44,27 @@ use Rattle.demands.proofs.Frames.{reply-lengths}
 -- ---- numbers
 
 -- what is shown of an answer: of a reply its cluster and its length, of a leave nothing
-data Shown : Type 0 where
-  replied : ℕ → ℕ → Shown
-  left : Shown
+data Outline : Type 0 where
+  aReply : ℕ → ℕ → Outline
+  aLeave : Outline
 
 -- so it is of an answer
-unfoldable shown : Answer → Shown
-shown (reply cluster bytes u) = replied cluster (length bytes)
-shown (leave q) = left
+unfoldable outline : Answer → Outline
+outline (reply cluster bytes u) = aReply cluster (length bytes)
+outline (leave q) = aLeave
 
 -- a refusal by the number of the first reason that holds, of five, and else an answer that shows this
-abbrev firstOf : Bool → Bool → Bool → Bool → Bool → Shown → Outcome Shown
+abbrev firstOf : Bool → Bool → Bool → Bool → Bool → Outline → Outcome Outline
 firstOf one two three four five s =
     cond one (refusal 1) (cond two (refusal 2) (cond three (refusal 3) (cond four (refusal 4) (cond five (refusal 5) (answer s)))))
 
 -- is it a refusal by this number?
-abbrev is : ℕ → Outcome Shown → Bool
+abbrev is : ℕ → Outcome Outline → Bool
 is n (answer s) = false
 is n (refusal k) = eqb k n
 
 -- an outcome is a refusal by a number exactly if that is its number
-exactly : (o : Outcome Answer) (n : ℕ) → Exactly o n (is n (mapped shown o))
+exactly : (o : Outcome Answer) (n : ℕ) → Exactly o n (is n (mapped outline o))
 unfolding mapped
 exactly (answer x) n = (λ e. absurd (refused (sym e)), λ e. absurd (false≢true e))
 exactly (refusal k) n = (λ e. eq-eqb k n (cc), λ e. rw (eqb-true k n e))
@@ -77,22 +77,22 @@ kept-where-refused (refusal k) t n told u before after d e = (d .table, d .buffe
 
 module _ (h : Host) (a : Asked) where
   -- what the answer to a request shows, where there is one
-  abbrev expected : Shown
-  expected = cond (eqb (a .cluster) MGMT-LEAVE-REQ) left (replied (a .cluster + 0x8000) (roomNeeded h a))
+  abbrev expected : Outline
+  expected = cond (eqb (a .cluster) MGMT-LEAVE-REQ) aLeave (aReply (a .cluster + 0x8000) (roomNeeded h a))
 
   -- so it is of a request, by whether the tables are bad
-  abbrev first : Bool → Outcome Shown
+  abbrev first : Bool → Outcome Outline
   first bad = firstOf bad (unknown a) (malformed a) (crowded h a) (tooLong h a) expected
 
   -- what may be shown
-  abbrev Shows : Outcome Shown → Type 0
-  Shows (answer (replied cluster n)) = (cluster ≡ a .cluster + 0x8000) × (a .cluster ≡ MGMT-LEAVE-REQ → ⊥) × (n ≡ roomNeeded h a) × (n ≤ a .room)
-  Shows (answer left) = a .cluster ≡ MGMT-LEAVE-REQ
+  abbrev Shows : Outcome Outline → Type 0
+  Shows (answer (aReply cluster n)) = (cluster ≡ a .cluster + 0x8000) × (a .cluster ≡ MGMT-LEAVE-REQ → ⊥) × (n ≡ roomNeeded h a) × (n ≤ a .room)
+  Shows (answer aLeave) = a .cluster ≡ MGMT-LEAVE-REQ
   Shows (refusal n) = (leb 1 n ≡ true) × (leb n 5 ≡ true)
 
   -- an outcome is allowed that shows it
-  allowed-shown : (o : Outcome Answer) → Shows (mapped shown o) → Allowed h a o
-  unfolding mapped shown
+  allowed-shown : (o : Outcome Answer) → Shows (mapped outline o) → Allowed h a o
+  unfolding mapped outline
   allowed-shown (answer (reply cluster bytes u)) (raised, stays, long, fits) = rw raised (replies bytes u stays long fits)
   allowed-shown (answer (leave q)) e = leaves q e
   allowed-shown (refusal n) (low, high) = refuses n (leb-true 1 n low) (leb-true n 5 high)
@@ -102,7 +102,7 @@ module _ (h : Host) (a : Asked) where
       (leaves : Bool)
       → eqb (a .cluster) MGMT-LEAVE-REQ ≡ leaves
       → tooLong h a ≡ false
-      → Shows (answer (cond leaves left (replied (a .cluster + 0x8000) (roomNeeded h a))))
+      → Shows (answer (cond leaves aLeave (aReply (a .cluster + 0x8000) (roomNeeded h a))))
   unfolding tooLong
   shows-expected true e fits = eqb-true (a .cluster) MGMT-LEAVE-REQ e
   shows-expected false e fits = (refl, eqb-false (a .cluster) MGMT-LEAVE-REQ e, refl, ltb-false (a .room) (roomNeeded h a) fits)
@@ -178,7 +178,7 @@ tables-good h t = rw (device-good, turned (t .count), turned (t .limit), neither
 
 module _ {A B : Type 0} where
   -- a function of what a test chooses
-  of-chosen : (f : A → B) (t : Bool) (x y : A) → f (cond t x y) ≡ cond t (f x) (f y)
+  pub of-chosen : (f : A → B) (t : Bool) (x y : A) → f (cond t x y) ≡ cond t (f x) (f y)
   of-chosen f true x y = refl
   of-chosen f false x y = refl
 
@@ -199,18 +199,18 @@ module _ {A B : Type 0} where
   then-mapped f (refusal n) next = refl
 
 -- what is shown of a reply of this cluster and length, in a buffer of this room
-abbrev sent : ℕ → ℕ → Outcome ℕ → Outcome Shown
-sent room cluster (answer n) = cond (ltb room n) (refusal 5) (answer (replied cluster n))
+abbrev sent : ℕ → ℕ → Outcome ℕ → Outcome Outline
+sent room cluster (answer n) = cond (ltb room n) (refusal 5) (answer (aReply cluster n))
 sent room cluster (refusal k) = refusal k
 
 -- so it is of a reply that is to be sent
 show-sent :
     (room cluster : ℕ) (u : BindingTable) (o : Outcome (List ℕ))
-    → mapped shown (mapped (λ bytes. reply cluster bytes u) (fitted room o)) ≡ sent room cluster (mapped length o)
-unfolding shown mapped fitted
+    → mapped outline (mapped (λ bytes. reply cluster bytes u) (fitted room o)) ≡ sent room cluster (mapped length o)
+unfolding outline mapped fitted
 show-sent room cluster u (refusal k) = refl
 show-sent room cluster u (answer bytes) =
-    of-least (λ o. mapped shown (mapped (λ bytes. reply cluster bytes u) o)) (length bytes) room (answer bytes) (refusal 5)
+    of-least (λ o. mapped outline (mapped (λ bytes. reply cluster bytes u) o)) (length bytes) room (answer bytes) (refusal 5)
 
 -- ---- the lengths of replies
 
@@ -325,22 +325,22 @@ module _ (payload : List ℕ) where
 
   -- what is shown of what is read by one of two modes, and then refused by 5 where it is long
   show-mode :
-      {A : Type 0} (group device long : Bool) (s : Shown) (x y : A) (next : A → Outcome Answer)
+      {A : Type 0} (group device long : Bool) (s : Outline) (x y : A) (next : A → Outcome Answer)
       → (group && device) ≡ false
-      → ((q : A) → mapped shown (next q) ≡ cond long (refusal 5) (answer s))
-      → mapped shown (andThen (cond group (needing 15 payload x) (cond device (needing 22 payload y) (refusal 3))) next)
+      → ((q : A) → mapped outline (next q) ≡ cond long (refusal 5) (answer s))
+      → mapped outline (andThen (cond group (needing 15 payload x) (cond device (needing 22 payload y) (refusal 3))) next)
       ≡ firstOf false false (shorter payload (cond device 22 15) || not (group || device)) false long s
   unfolding mapped andThen
   show-mode true true long s x y next e after = absurd (false≢true (sym e))
-  show-mode true false long s x y next e after = rw (of-needing (λ o. mapped shown (andThen o next)) 15 payload x, after x, or-false)
-  show-mode false true long s x y next e after = rw (of-needing (λ o. mapped shown (andThen o next)) 22 payload y, after y, or-false)
+  show-mode true false long s x y next e after = rw (of-needing (λ o. mapped outline (andThen o next)) 15 payload x, after x, or-false)
+  show-mode false true long s x y next e after = rw (of-needing (λ o. mapped outline (andThen o next)) 22 payload y, after y, or-false)
   show-mode false false long s x y next e after = rw or-true
 
   -- so it is of a request whose reply is a status
   show-link :
       (room cluster : ℕ) (after : BindReq → BindingTable) (status : BindReq → ℕ)
-      → mapped shown (andThen (bindReqIn payload) (λ q. mapped (λ bytes. reply cluster bytes (after q)) (fitted room (statusRsp (q .seq) (status q)))))
-      ≡ firstOf false false (shorter payload (bindBytes payload) || not (eqb mode 1 || eqb mode 3)) false (ltb room 2) (replied cluster 2)
+      → mapped outline (andThen (bindReqIn payload) (λ q. mapped (λ bytes. reply cluster bytes (after q)) (fitted room (statusRsp (q .seq) (status q)))))
+      ≡ firstOf false false (shorter payload (bindBytes payload) || not (eqb mode 1 || eqb mode 3)) false (ltb room 2) (aReply cluster 2)
   unfolding bindReqIn destinationIn groupIn deviceIn bindBytes
   show-link room cluster after status =
       rw (then-mapped, byte-read)
@@ -366,31 +366,31 @@ module _ (h : Host) (t : BindingTable) (payload : List ℕ) (room : ℕ) where
   asks c = record { cluster = c; payload = payload; room = room }
 
   -- what is shown, where the tables are good: the first reason that holds, or what is expected
-  abbrev ShownBy : ℕ → Type 0
-  ShownBy c = mapped shown (byCluster h t (asks c)) ≡ first h (asks c) false
+  abbrev OutlineBy : ℕ → Type 0
+  OutlineBy c = mapped outline (byCluster h t (asks c)) ≡ first h (asks c) false
 
   -- a discovery request that needs n bytes, whose reply has this length
   show-discovery :
       {Q : Type 0} (c n : ℕ) (q : Q) (next : Q → Outcome (List ℕ))
       → mapped length (next q) ≡ cond (crowded h (asks c)) (refusal 4) (answer (roomNeeded h (asks c)))
-      → mapped shown (mapped (λ bytes. reply (replyCluster c) bytes t) (fitted room (andThen (needing n payload q) next)))
-      ≡ firstOf false false (shorter payload n || false) (crowded h (asks c)) (tooLong h (asks c)) (replied (replyCluster c) (roomNeeded h (asks c)))
+      → mapped outline (mapped (λ bytes. reply (replyCluster c) bytes t) (fitted room (andThen (needing n payload q) next)))
+      ≡ firstOf false false (shorter payload n || false) (crowded h (asks c)) (tooLong h (asks c)) (aReply (replyCluster c) (roomNeeded h (asks c)))
   unfolding tooLong mapped andThen
   show-discovery c n q next e =
-      let made : Outcome ℕ → Outcome Shown = sent room (replyCluster c) in
+      let made : Outcome ℕ → Outcome Outline = sent room (replyCluster c) in
       rw (show-sent room (replyCluster c) t, of-needing (λ o. made (mapped length (andThen o next))) n payload q, e, of-chosen made (crowded h (asks c)), or-false)
 
   -- any other cluster
-  show-other : (c : ℕ) → Each (λ x. eqb c x ≡ false) requestClusters → ShownBy c
+  show-other : (c : ℕ) → Each (λ x. eqb c x ≡ false) requestClusters → OutlineBy c
   unfolding byCluster discovered discovery unknown among any mapped fitted
   show-other c (e0 & e1 & e2 & e3 & e4 & e5 & e6 & e7 & e8 & e9 & end) = rw (e0, e1, e2, e3, e4, e5, e6, e7, e8, e9)
 
   -- each cluster
-  show-cluster : goodDevice (h .pools) (h .device) ≡ true → (c : ℕ) → ShownBy c
-  unfolding mapped shown byCluster discovered discovery unknown among any malformed badMode bytesNeeded forCluster tooLong roomNeeded crowded aboutUs recordAsked simpleRoom nwkAddrReqIn ieeeAddrReqIn addrOfInterestReqIn addrOfInterestWidths simpleDescReqIn mgmtLeaveReqIn parsed size fieldsAt onNwkAddr onIeeeAddr onNode onPower onSimple onActive about simpleRspOf activeRspOf numbers onLink linkAnswer
+  show-cluster : goodDevice (h .pools) (h .device) ≡ true → (c : ℕ) → OutlineBy c
+  unfolding mapped outline byCluster discovered discovery unknown among any malformed badMode bytesNeeded forCluster tooLong roomNeeded crowded aboutUs recordAsked simpleRoom nwkAddrReqIn ieeeAddrReqIn addrOfInterestReqIn addrOfInterestWidths simpleDescReqIn mgmtLeaveReqIn parsed size fieldsAt onNwkAddr onIeeeAddr onNode onPower onSimple onActive about simpleRspOf activeRspOf numbers onLink linkAnswer
   show-cluster good c =
       let us : Bool = aboutUs h payload in
-      each-or-none ShownBy c requestClusters
+      each-or-none OutlineBy c requestClusters
       (show-discovery NWK-ADDR-REQ 10 _ _ (rw (byte-read payload 9) (address-length _ _ _ _ _ _ (reply-lengths .addressError _ _ _ _)))
       & show-discovery IEEE-ADDR-REQ 4 _ _ (rw (byte-read payload 3) (address-length _ _ _ _ us _ (reply-lengths .addressError _ _ _ _)))
       & show-discovery NODE-DESC-REQ 3 _ _ (about-length us _ _ 17 4 (reply-lengths .descriptorError _ _ _) (reply-lengths .node _ _ _))
@@ -400,18 +400,18 @@ module _ (h : Host) (t : BindingTable) (payload : List ℕ) (room : ℕ) where
       & (rw match-read (show-discovery MATCH-DESC-REQ (matchBytes payload) _ _ (match-length payload h)))
       & show-link payload room _ _ _
       & show-link payload room _ _ _
-      & (rw (of-needing (λ o. mapped shown (mapped leave o)) 10 payload _, le-ltb room 0 (omega arith), or-false))
+      & (rw (of-needing (λ o. mapped outline (mapped leave o)) 10 payload _, le-ltb room 0 (omega arith), or-false))
       & end)
       (show-other c)
 
 -- ---- all
 
 -- a request is refused by the number of the first reason that holds, and else its answer shows what is expected
-first-reason : (h : Host) (t : BindingTable) (a : Asked) → mapped shown (answered h t a) ≡ first h a (badTables h t)
+first-reason : (h : Host) (t : BindingTable) (a : Asked) → mapped outline (answered h t a) ≡ first h a (badTables h t)
 unfolding answered mapped goodHost
 first-reason h t a = rw (tables-good h t) (go (badTables h t) refl)
   where
-    go : (bad : Bool) → badTables h t ≡ bad → mapped shown (cond (not bad) (byCluster h t a) (refusal 1)) ≡ first h a bad
+    go : (bad : Bool) → badTables h t ≡ bad → mapped outline (cond (not bad) (byCluster h t a) (refusal 1)) ≡ first h a bad
     go true e = refl
     go false e = show-cluster h t (a .payload) (a .room) (and-eq-true-iff (goodHost h) (goodTable t) .0 (tables-good h t ∙ ap not e) .0) (a .cluster)
 

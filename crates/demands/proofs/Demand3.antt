@@ -24,7 +24,7 @@ use Rattle.demands.proofs.Runs.{left-alike}
 use Rattle.demands.proofs.Calls.{stepped, Stepped, again, full, added, removed, absent, step-cases, told-step, next-placed}
 use Rattle.demands.proofs.Order.{Behind, behind-next, behind-ordered, behind-empty}
 use Rattle.demands.proofs.Requests.{Plain, replies, leaves, keeping, clusterOf, linked, status-bytes, Kind, idle, call, kind}
-use Rattle.demands.proofs.Servers.{shown, seen-shown}
+use Rattle.demands.proofs.Servers.{writtenSeen, shown, seen-shown}
 
 -- ---- the table after a request
 
@@ -43,7 +43,7 @@ call-table cluster seq c g = sym (next-placed c g)
 -- ---- what is seen of it
 
 -- what does nothing shows the same on any two tables
-pub kept-shown : (t u : BindingTable) (o : Outcome Plain) → shown (mapped (keeping t) o) ≡ shown (mapped (keeping u) o)
+kept-shown : (t u : BindingTable) (o : Outcome Plain) → shown (mapped (keeping t) o) ≡ shown (mapped (keeping u) o)
 unfolding shown mapped keeping
 kept-shown t u (answer (replies cluster bytes)) = refl
 kept-shown t u (answer (leaves q)) = refl
@@ -69,7 +69,7 @@ status-byte (absent b h) = refl
 
 -- so a call shows its status
 pub call-shown : (cluster seq : ℕ) (t : BindingTable) (c : Call) → shown (answer (linked cluster seq t (stepped t c))) ≡ statusSeen cluster (seq % 256) (stepped t c .status)
-unfolding shown linked
+unfolding shown writtenSeen linked
 call-shown cluster seq t c = rw (status-bytes, status-byte (step-cases t c))
 
 -- ---- a request on two tables
@@ -102,25 +102,25 @@ module _ (h : Host) where
   behind-alike {t} {u} b r q e = rw (seen-shown h t r, seen-shown h u q, ← e) (shown-alike h b (askedOf r) (kind h (askedOf r)))
 
   -- so it is after requests, from empty
-  pub behind-run :
+  behind-run :
       (less more : ℕ)
       → less ≤ more
       → more ≤ 32
-      → (rs us : List Request)
-      → map askedOf rs ≡ map askedOf us
-      → Behind (stateAfter (dispatcher h) (emptyTable less) rs) (stateAfter (dispatcher h) (emptyTable more) us)
-  behind-run less more e l rs us same = left-alike (nextState (dispatcher h)) askedOf Behind behind-state rs us same (behind-empty less more e l)
+      → (rs qs : List Request)
+      → map askedOf rs ≡ map askedOf qs
+      → Behind (stateAfter (dispatcher h) (emptyTable less) rs) (stateAfter (dispatcher h) (emptyTable more) qs)
+  behind-run less more e l rs qs same = left-alike (nextState (dispatcher h)) askedOf Behind behind-state rs qs same (behind-empty less more e l)
 
 pub more-room : MoreRoom
 unfolding withTable dispatcher
-more-room h less more e l rs us same =
-    let b = behind-run h less more e l rs us same in
+more-room h less more e l rs qs same =
+    let b = behind-run h less more e l rs qs same in
     record { entries = behind-ordered b .entries; answers = behind-alike h b }
 
 -- ---- what it permits
 
 pub success-stays : SuccessStays
-success-stays cluster _ seq rest s is (alike.equal _) = refl
+success-stays cluster _ seq rest s (alike.equal _) = refl
 
 pub others-same : OthersSame
 unfolding among any

@@ -27,16 +27,16 @@ success-kept c o (equal _ _) = refl
 
 -- between the entries held at limit m and those held at limit n: the first are held in the second, none of the first stands twice,
 -- and the second have no less room left
-record Ahead (m n : ℕ) (xs ys : List Binding) : Type 0 where
+record Covered (m n : ℕ) (xs ys : List Binding) : Type 0 where
   sub : (c : Binding) → holds c xs ≡ true → holds c ys ≡ true
   once : distinct xs ≡ true
   spare : length ys + m ≤ length xs + n
 
 -- so it is after a step, and the statuses agree
 abbrev Next : ℕ → ℕ → Call → Step → Step → Type 0
-Next m n c s l = Ahead m n (s .entries) (l .entries) × Agree c (answer (s .status)) (answer (l .status))
+Next m n c s l = Covered m n (s .entries) (l .entries) × Agree c (answer (s .status)) (answer (l .status))
 
-module _ {m n : ℕ} {xs ys : List Binding} (a : Ahead m n xs ys) where
+module _ {m n : ℕ} {xs ys : List Binding} (a : Covered m n xs ys) where
   -- none that is held in the first run is missing in the second
   missing : {P : Type 0} (b : Binding) → holds b xs ≡ true → holds b ys ≡ false → P
   missing b hx hy = absurd (false≢true (sym hy ∙ a .sub b hx))
@@ -46,17 +46,17 @@ module _ {m n : ℕ} {xs ys : List Binding} (a : Ahead m n xs ys) where
   grown b c h = last-keeps c b ys (a .sub c h)
 
   -- it stays so where b is put last in the second, since the first is full
-  second-added : (b : Binding) → length xs ≡ m → length ys ≤ n → (length ys ≡ n → ⊥) → Ahead m n xs (ys ++ (b ∷ []))
+  second-added : (b : Binding) → length xs ≡ m → length ys ≤ n → (length ys ≡ n → ⊥) → Covered m n xs (ys ++ (b ∷ []))
   second-added b e large k =
       record { sub = grown b; once = a .once; spare = simp length-append (omega arith) }
 
   -- or in the first, since the second holds it
-  first-added : (b : Binding) → holds b xs ≡ false → holds b ys ≡ true → Ahead m n (xs ++ (b ∷ [])) ys
+  first-added : (b : Binding) → holds b xs ≡ false → holds b ys ≡ true → Covered m n (xs ++ (b ∷ [])) ys
   first-added b hx hy =
       record { sub = last-within b xs ys (a .sub) hy; once = distinct-last b xs (a .once) hx; spare = simp length-append (omega arith) }
 
   -- or in both
-  both-added : (b : Binding) → holds b xs ≡ false → Ahead m n (xs ++ (b ∷ [])) (ys ++ (b ∷ []))
+  both-added : (b : Binding) → holds b xs ≡ false → Covered m n (xs ++ (b ∷ [])) (ys ++ (b ∷ []))
   both-added b hx =
       record {
         sub = last-within b xs (ys ++ (b ∷ [])) (grown b) (last-held b ys);
@@ -69,12 +69,12 @@ module _ {m n : ℕ} {xs ys : List Binding} (a : Ahead m n xs ys) where
   stays b c other h = holds-other c b ys other ∙ a .sub c h
 
   -- so it stays where b goes from the second alone
-  second-removed : (b : Binding) → holds b xs ≡ false → holds b ys ≡ true → Ahead m n xs (without b ys)
+  second-removed : (b : Binding) → holds b xs ≡ false → holds b ys ≡ true → Covered m n xs (without b ys)
   second-removed b hx hy =
       record { sub = λ c h. stays b c (not-same b c xs hx h) h; once = a .once; spare = omega (arith, length-without b ys hy) }
 
   -- or from both, since the first then holds none that is the same as b
-  both-removed : (b : Binding) → holds b xs ≡ true → holds b ys ≡ true → Ahead m n (without b xs) (without b ys)
+  both-removed : (b : Binding) → holds b xs ≡ true → holds b ys ≡ true → Covered m n (without b xs) (without b ys)
   both-removed b hx hy =
       record {
         sub =
@@ -106,7 +106,7 @@ module _ {m n : ℕ} {xs ys : List Binding} (a : Ahead m n xs ys) where
 pub record Behind (t u : BindingTable) : Type 0 where
   pub less : Good t
   pub more : Good u
-  ahead : Ahead (t .limit) (u .limit) (held t) (held u)
+  ahead : Covered (t .limit) (u .limit) (held t) (held u)
 
 stepped-next : {t u : BindingTable} (c : Call) → Behind t u → Next (t .limit) (u .limit) c (stepped t c) (stepped u c)
 stepped-next {t} {u} c r =
@@ -123,6 +123,7 @@ behind-next c r =
       ahead = rw (next-held c (r .less), next-held c (r .more), next-limit c (r .less), next-limit c (r .more)) (stepped-next c r .0);
     }
 
+-- which is what `Order` says of them
 pub behind-ordered : {t u : BindingTable} → Behind t u → Ordered t u
 behind-ordered r =
     record {

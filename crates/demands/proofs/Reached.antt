@@ -26,13 +26,14 @@ use Rattle.demands.proofs.Distinct.{distinct-last, distinct-without}
 -- ---- sound tables
 
 -- no entry stands twice after a step
-once-step : {limit : ℕ} {xs : List Binding} {c : Call} {s : Step} → Stepped limit xs c s → distinct xs ≡ true → distinct (s .entries) ≡ true
+pub once-step : {limit : ℕ} {xs : List Binding} {c : Call} {s : Step} → Stepped limit xs c s → distinct xs ≡ true → distinct (s .entries) ≡ true
 once-step (again b h) d = d
 once-step (full b h e) d = d
 once-step {xs = xs} (added b h room) d = distinct-last b xs d h
 once-step {xs = xs} (removed b h) d = distinct-without b xs d
 once-step (absent b h) d = d
 
+-- a sound table is good
 pub sound-good : {t : BindingTable} → Sound t → Good t
 sound-good {t} r = good-table t (r .places) (r .good)
 

@@ -69,7 +69,7 @@ module _ {A : Type 0} where
 
   module _ {B : Type 0} where
     -- seen through f, it is the same refusal
-    pub refuse-mapped : (f : A → B) (o : Outcome A) → refusalOf (mapped f o) ≡ refusalOf o
+    refuse-mapped : (f : A → B) (o : Outcome A) → refusalOf (mapped f o) ≡ refusalOf o
     unfolding refusalOf mapped
     refuse-mapped f (answer a) = refl
     refuse-mapped f (refusal n) = refl
@@ -115,7 +115,7 @@ module _ {A : Type 0} where
   refuse-needing n bytes a = rw (then-answer, or-false) at (refuse-next n bytes a answer false (λ _. refl))
 
   -- a frame of fields
-  pub refuse-parsed : (ws : List ℕ) (make : (ℕ → ℕ) → A) (bytes : List ℕ) → refusalOf (parsed ws make bytes) ≡ malformedIf (shorter bytes (size ws))
+  refuse-parsed : (ws : List ℕ) (make : (ℕ → ℕ) → A) (bytes : List ℕ) → refusalOf (parsed ws make bytes) ≡ malformedIf (shorter bytes (size ws))
   unfolding parsed
   refuse-parsed ws make bytes = refuse-needing (size ws) bytes _
 

@@ -158,7 +158,7 @@ left-plain (answer q) t = refl
 left-plain (refusal n) t = refl
 
 -- discovery
-found-plain : (cluster : ℕ) (o : Outcome (List ℕ)) (t : BindingTable) → mapped (λ bytes. reply cluster bytes t) o ≡ mapped (keeping t) (mapped (replies cluster) o)
+pub found-plain : (cluster : ℕ) (o : Outcome (List ℕ)) (t : BindingTable) → mapped (λ bytes. reply cluster bytes t) o ≡ mapped (keeping t) (mapped (replies cluster) o)
 unfolding mapped keeping
 found-plain cluster (answer bytes) t = refl
 found-plain cluster (refusal n) t = refl

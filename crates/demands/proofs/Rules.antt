@@ -21,7 +21,7 @@ use Rattle.node_descriptor.specs.declared.LogicalType.{LogicalType}
 use Rattle.node_descriptor.specs.declared.LogicalType.the-variants.{Coordinator, Router, EndDevice, Reserved}
 use Rattle.aps_binding.specs.declared.binding.Binding.{Binding}
 use Rattle.aps_binding_table.specs.Held.{Step, holds}
-use Rattle.aps_binding_table.specs.Table.{emptyTable, goodTable}
+use Rattle.aps_binding_table.specs.Table.{emptyTable, goodTable, held}
 use Rattle.aps_binding_table.specs.declared.binding.BindingTable.{BindingTable}
 use Rattle.aps_binding_table.proofs.Good.{Good, good-table}
 use Rattle.aps_binding_table.proofs.Holds.{last-held}
@@ -40,22 +40,42 @@ use Rattle.zdo_dispatcher.specs.Answers.{reply, toldOf, answered, byCluster, ta
 use Rattle.demands.specs.Runs.{left}
 use Rattle.demands.specs.Calls.{Call, bind, unbind, told, next}
 use Rattle.demands.specs.History.{succeeded, adds, removes}
-use Rattle.demands.specs.Reached.{Built, group, device, BuiltCall, Reached}
+use Rattle.demands.specs.Reached.{Built, group, device, BuiltCall, distinct, Reached}
 use Rattle.demands.specs.Servers.{Request, askedOf, nextState, withTable, comesOf, dispatcher}
 use Rattle.demands.specs.Demand1.{discoveryClusters, among, matchBytes, lookedFor, matched}
-use Rattle.demands.specs.Rules.{Isolated, Isolation, saysSuccess, heldOf, namedHeld, succeedsAs, bindAdds, unbindRemoves, HistoryKept, ReachedByRequests, MatchingKept}
+use Rattle.demands.specs.Rules.{Isolation, saysSuccess, heldOf, namedHeld, succeedsAs, bindAdds, unbindRemoves, HistoryKept, ReachedByRequests, MatchingKept}
 use Rattle.demands.proofs.Runs.{left-keeps, Balanced, left-balanced}
 use Rattle.demands.proofs.Calls.{stepped, Stepped, again, full, added, removed, absent, step-cases, told-step, next-held}
 use Rattle.demands.proofs.History.{turn}
-use Rattle.demands.proofs.Reached.{sound-good, reached-next, reached-from-empty}
-use Rattle.demands.proofs.Demand1.{match-read, wanted-read}
-use Rattle.demands.proofs.Requests.{Plain, replies, leaves, keeping, plainBytes, clusterOf, entryOf, linked, Kind, idle, call, kind, bad-refused}
-use Rattle.demands.proofs.Servers.{shown, seen-shown}
+use Rattle.demands.proofs.Distinct.{holds-gone}
+use Rattle.demands.proofs.Reached.{once-step, sound-good, reached-next, reached-from-empty}
+use Rattle.demands.proofs.Demand1.{of-chosen, match-read, wanted-read}
+use Rattle.demands.proofs.Requests.{Plain, replies, leaves, keeping, plainBytes, found-plain, clusterOf, entryOf, linked, Kind, idle, call, kind, bad-refused}
+use Rattle.demands.proofs.Servers.{writtenSeen, shown, seen-shown}
 use Rattle.demands.proofs.Demand3.{kept-table, call-table, call-shown}
+
+-- ---- what does nothing
+
+-- it shows its bytes
+plain-shown : (t : BindingTable) (o : Outcome Plain) → shown (mapped (keeping t) o) .bytes ≡ plainBytes o
+unfolding shown writtenSeen mapped keeping plainBytes
+plain-shown t (answer (replies cluster bytes)) = refl
+plain-shown t (answer (leaves q)) = refl
+plain-shown t (refusal n) = refl
+
+-- it tells the same on any two tables, and leaves the same in the buffer
+plain-told :
+    (t u : BindingTable) (before : List ℕ) (o : Outcome Plain)
+    → (mapped toldOf (mapped (keeping t) o) ≡ mapped toldOf (mapped (keeping u) o))
+    × (bufferAfter before (mapped (keeping t) o) ≡ bufferAfter before (mapped (keeping u) o))
+unfolding mapped keeping toldOf bufferAfter
+plain-told t u before (answer (replies cluster bytes)) = (refl, refl)
+plain-told t u before (answer (leaves q)) = (refl, refl)
+plain-told t u before (refusal n) = (refl, refl)
 
 -- ---- isolation
 
--- a cluster that is not among some is none of them
+-- what is not among some is none of those that are
 none-of : (clusters : List ℕ) (k cluster : ℕ) → among clusters k ≡ false → among clusters cluster ≡ true → eqb cluster k ≡ false
 none-of clusters k cluster out is = go (eqb cluster k) refl
   where
@@ -63,39 +83,30 @@ none-of clusters k cluster out is = go (eqb cluster k) refl
     go false e = e
     go true e = absurd (false≢true (sym out ∙ rw (eqb-true cluster k e) at is))
 
--- so a discovery request is answered without a good table, which stays
+-- what a discovery request comes to, the table left aside
+abbrev foundBy : Host → Asked → Outcome Plain
+foundBy h a = cond (goodHost h) (mapped (replies (replyCluster (a .cluster))) (discovered h a)) (refusal 1)
+
+-- it does nothing to a good table
 found :
     (h : Host) (t : BindingTable) (a : Asked)
     → goodTable t ≡ true
     → among discoveryClusters (a .cluster) ≡ true
-    → answered h t a ≡ cond (goodHost h) (mapped (λ bytes. reply (replyCluster (a .cluster)) bytes t) (discovered h a)) (refusal 1)
-unfolding answered byCluster among any
+    → answered h t a ≡ mapped (keeping t) (foundBy h a)
+unfolding answered byCluster among any mapped
 found h t a good is =
     let other : (k : ℕ) → among discoveryClusters k ≡ false → eqb (a .cluster) k ≡ false = λ k out. none-of discoveryClusters k (a .cluster) out is in
-    rw (good, and-true, other BIND-REQ refl, other UNBIND-REQ refl, other MGMT-LEAVE-REQ refl)
-
--- and shows the same of any two
-isolated :
-    (h : Host) (t u : BindingTable) (a : Asked) (before : List ℕ) (good : Bool) (o : Outcome (List ℕ))
-    → answered h t a ≡ cond good (mapped (λ bytes. reply (replyCluster (a .cluster)) bytes t) o) (refusal 1)
-    → answered h u a ≡ cond good (mapped (λ bytes. reply (replyCluster (a .cluster)) bytes u) o) (refusal 1)
-    → Isolated h t u a before
-unfolding mapped toldOf tableAfter bufferAfter
-isolated h t u a before false o d e = record { told = rw (d, e); buffer = rw (d, e); first = rw d; second = rw e }
-isolated h t u a before true (refusal n) d e = record { told = rw (d, e); buffer = rw (d, e); first = rw d; second = rw e }
-isolated h t u a before true (answer bytes) d e = record { told = rw (d, e); buffer = rw (d, e); first = rw d; second = rw e }
+    rw (good, and-true, other BIND-REQ refl, other UNBIND-REQ refl, other MGMT-LEAVE-REQ refl, found-plain (replyCluster (a .cluster)) (discovered h a) t)
+    (sym (of-chosen (mapped (keeping t)) (goodHost h) (mapped (replies (replyCluster (a .cluster))) (discovered h a)) (refusal 1)))
 
 pub isolation : Isolation
-isolation h t u a before good well is = isolated h t u a before (goodHost h) (discovered h a) (found h t a good is) (found h u a well is)
+isolation h t u a before good well is =
+    let first = found h t a good is in
+    let second = found h u a well is in
+    let (told, buffer) = plain-told t u before (foundBy h a) in
+    record { told = rw (first, second) told; buffer = rw (first, second) buffer; first = rw (first, kept-table); second = rw (second, kept-table) }
 
 -- ---- history
-
--- what does nothing shows its bytes
-plain-shown : (t : BindingTable) (o : Outcome Plain) → shown (mapped (keeping t) o) .bytes ≡ plainBytes o
-unfolding shown mapped keeping plainBytes
-plain-shown t (answer (replies cluster bytes)) = refl
-plain-shown t (answer (leaves q)) = refl
-plain-shown t (refusal n) = refl
 
 -- a bind that adds holds its entry afterwards
 added-held :
@@ -106,13 +117,19 @@ added-held (again b h) = rw h
 added-held (full b h e) = refl
 added-held {xs = xs} (added b h e) = rw (h, last-held b xs)
 
--- an unbind that succeeds held it before
+-- an unbind that succeeds held it before, and not afterwards
 removed-held :
     {limit : ℕ} {xs : List Binding} {b : Binding} {s : Step}
+    → distinct xs ≡ true
     → Stepped limit xs (unbind b) s
-    → (eqb (s .status) SUCCESS && holds b xs) ≡ eqb (s .status) SUCCESS
-removed-held (removed b h) = rw h
-removed-held (absent b h) = refl
+    → (eqb (s .status) SUCCESS && (holds b xs && not (holds b (s .entries)))) ≡ eqb (s .status) SUCCESS
+removed-held {xs = xs} d (removed b h) = rw (h, holds-gone b xs d)
+removed-held d (absent b h) = refl
+
+-- a table of thirty-two places in which no entry stands twice
+record Whole (t : BindingTable) : Type 0 where
+  places : length (t .entries) ≡ 32
+  once : distinct (held t) ≡ true
 
 module _ (h : Host) (t : BindingTable) (r : Request) where
   -- the table after a request is that of the outcome
@@ -125,59 +142,67 @@ module _ (h : Host) (t : BindingTable) (r : Request) where
   unfolding succeedsAs
   succeeds-shown cluster = rw seen-shown
 
-  -- what it removes and what it adds make the count, and the places stay thirty-two
+  -- what it removes and what it adds make the count, and the table after it is whole too
   abbrev Turn : Type 0
   Turn =
-      (length (nextState (dispatcher h) t r .entries) ≡ 32)
+      Whole (nextState (dispatcher h) t r)
       × Balanced (nextState (dispatcher h)) (λ t. t .count) (unbindRemoves (dispatcher h)) (bindAdds (dispatcher h)) t r
 
   -- so it is with what does nothing, and is no bind or unbind that succeeds
   idle-turn :
       (o : Outcome Plain)
-      → length (t .entries) ≡ 32
+      → Whole t
       → (eqb (r .cluster) BIND-REQ && saysSuccess (plainBytes o)) ≡ false
       → (eqb (r .cluster) UNBIND-REQ && saysSuccess (plainBytes o)) ≡ false
       → answered h t (askedOf r) ≡ mapped (keeping t) o
       → Turn
   unfolding bindAdds unbindRemoves bit
-  idle-turn o long d e is = (rw (state-after, is, kept-table) long, rw (state-after, succeeds-shown, succeeds-shown, is, kept-table, plain-shown, d, e))
+  idle-turn o w d e is = (rw (state-after, is, kept-table) w, rw (state-after, succeeds-shown, succeeds-shown, is, kept-table, plain-shown, d, e))
 
   -- a call adds and removes what the table's own function does
   call-adds :
       (c : Call) (seq : ℕ)
       → Good t
+      → distinct (held t) ≡ true
       → r .cluster ≡ clusterOf c
       → mapped bindingOf (bindReqIn (r .payload)) ≡ answer (entryOf c)
       → answered h t (askedOf r) ≡ answer (linked (r .cluster) seq t (stepped t c))
       → (bindAdds (dispatcher h) t r ≡ adds t c) × (unbindRemoves (dispatcher h) t r ≡ removes t c)
   unfolding bindAdds unbindRemoves adds removes succeeded saysSuccess namedHeld heldOf withTable dispatcher comesOf
-  call-adds (bind b) seq g e named is =
+  call-adds (bind b) seq g d e named is =
       let left = call-table (r .cluster) seq (bind b) g in
-      (rw (succeeds-shown, is, call-shown, left, next-held (bind b) g, named, e, told-step (bind b) g) (added-held (step-cases t (bind b))), rw (succeeds-shown, e))
-  call-adds (unbind b) seq g e named is =
-      (rw (succeeds-shown, e), rw (succeeds-shown, is, call-shown, named, e, told-step (unbind b) g) (removed-held (step-cases t (unbind b))))
+      let added = added-held (step-cases t (bind b)) in
+      (rw (succeeds-shown, is, call-shown, left, next-held (bind b) g, named, e, told-step (bind b) g) added, rw (succeeds-shown, e))
+  call-adds (unbind b) seq g d e named is =
+      let left = call-table (r .cluster) seq (unbind b) g in
+      let removed = removed-held d (step-cases t (unbind b)) in
+      (rw (succeeds-shown, e), rw (succeeds-shown, is, call-shown, left, next-held (unbind b) g, named, e, told-step (unbind b) g) removed)
 
-  good-turn : Good t → Kind h (askedOf r) → Turn
+  -- so it is with any request on a good table
+  good-turn : Good t → Whole t → Kind h (askedOf r) → Turn
   unfolding asking
-  good-turn g (idle o d e is) = idle-turn o (g .places) d e (is t g)
-  good-turn g (call c seq e named is) =
-      let (add, remove) = call-adds c seq g e named (is t g) in
-      let (long, even) = turn t c (g .places) in
-      (rw (state-after, is t g, call-table (r .cluster) seq c g) long, rw (state-after, is t g, call-table (r .cluster) seq c g, add, remove) even)
+  good-turn g w (idle o d e is) = idle-turn o w d e (is t g)
+  good-turn g w (call c seq e named is) =
+      let (add, remove) = call-adds c seq g (w .once) e named (is t g) in
+      let (long, even) = turn t c (w .places) in
+      let after : Whole (next t c) = record { places = long; once = rw (next-held c g) (once-step (step-cases t c) (w .once)) } in
+      (rw (state-after, is t g, call-table (r .cluster) seq c g) after, rw (state-after, is t g, call-table (r .cluster) seq c g, add, remove) even)
 
-  request-turn : length (t .entries) ≡ 32 → Turn
+  -- and on one that is not good, which stays
+  request-turn : Whole t → Turn
   unfolding mapped plainBytes saysSuccess
-  request-turn long = go (goodTable t) refl
+  request-turn w = go (goodTable t) refl
     where
       go : (good : Bool) → goodTable t ≡ good → Turn
-      go true e = good-turn (good-table t long e) (kind h (askedOf r))
-      go false e = idle-turn (refusal 1) long (and-false (eqb (r .cluster) BIND-REQ)) (and-false (eqb (r .cluster) UNBIND-REQ)) (bad-refused h (askedOf r) t e)
+      go true e = good-turn (good-table t (w .places) e) w (kind h (askedOf r))
+      go false e = idle-turn (refusal 1) w (and-false (eqb (r .cluster) BIND-REQ)) (and-false (eqb (r .cluster) UNBIND-REQ)) (bad-refused h (askedOf r) t e)
 
 pub history-kept : HistoryKept
-unfolding withTable dispatcher emptyTable
+unfolding withTable dispatcher emptyTable held distinct
 history-kept h limit rs =
     let ours = dispatcher h in
-    omega (arith, left-balanced (nextState ours) (λ t. t .count) (unbindRemoves ours) (bindAdds ours) (λ t. length (t .entries) ≡ 32) (request-turn h) rs (emptyTable limit) refl)
+    let start : Whole (emptyTable limit) = record { places = refl; once = refl } in
+    omega (arith, left-balanced (nextState ours) (λ t. t .count) (unbindRemoves ours) (bindAdds ours) Whole (request-turn h) rs (emptyTable limit) start)
 
 -- ---- the table after requests
 
@@ -198,6 +223,7 @@ call-built : (c : Call) → Built (entryOf c) → BuiltCall c
 call-built (bind b) built = built
 call-built (unbind b) built = tt
 
+-- what a request leaves
 reached-request : (h : Host) (t : BindingTable) (r : Request) → Kind h (askedOf r) → Reached t → Reached (nextState (dispatcher h) t r)
 unfolding asking
 reached-request h t r (idle o _ _ is) s = rw (state-after h t r, is t (sound-good (s .sound)), kept-table) s
@@ -240,7 +266,7 @@ module _ (rest : List ℕ) where
 
   -- where it is handed on with its cluster and a table
   shown-goes : (cluster : ℕ) (t : BindingTable) (o : Outcome (List ℕ)) → GoesIn rest o → Goes rest (shown (mapped (λ bytes. reply cluster bytes t) o) .bytes)
-  unfolding GoesIn shown mapped saysSuccess
+  unfolding GoesIn shown writtenSeen mapped saysSuccess
   shown-goes cluster t (answer bytes) c = c
   shown-goes cluster t (refusal k) c = λ e. absurd (false≢true e)
 

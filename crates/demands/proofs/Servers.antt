@@ -16,11 +16,12 @@ ours-dispatches h t r told u after d = λ i. record { told = d .said i; buffer =
 
 -- ---- what is seen
 
--- bytes that are written stand at the front of the buffer
+-- what is seen of bytes that are written with a cluster, or of a refusal
 unfoldable pub writtenSeen : ℕ → Outcome (List ℕ) → Seen
 writtenSeen cluster (answer bytes) = record { told = answer (replied cluster (length bytes)); bytes = bytes }
 writtenSeen cluster (refusal n) = record { told = refusal n; bytes = [] }
 
+-- they stand at the front of the buffer
 pub written-seen :
     {S : Type 0} (cluster : ℕ) (o : Outcome (List ℕ)) (before : List ℕ) (x : S)
     → seen (record { told = mapped (λ xs. replied cluster (length xs)) o; buffer = written before o; state = x }) ≡ writtenSeen cluster o
@@ -28,18 +29,20 @@ unfolding seen writtenSeen mapped written bytesOf
 written-seen cluster (answer bytes) before x = rw take-append-seam
 written-seen cluster (refusal n) before x = refl
 
--- so does a reply
+-- what is seen of an outcome
 unfoldable pub shown : Outcome Answer → Seen
-shown (answer (reply cluster bytes u)) = record { told = answer (replied cluster (length bytes)); bytes = bytes }
+shown (answer (reply cluster bytes u)) = writtenSeen cluster (answer bytes)
 shown (answer (leave q)) = record { told = answer (leaving q); bytes = [] }
 shown (refusal n) = record { told = refusal n; bytes = [] }
 
+-- so it is, whatever the buffer held
 pub shown-seen : (t : BindingTable) (r : Request) (o : Outcome Answer) → seen (comesOf t r o) ≡ shown o
-unfolding seen shown comesOf mapped toldOf bufferAfter written bytesOf
-shown-seen t r (answer (reply cluster bytes u)) = rw take-append-seam
+unfolding seen shown comesOf mapped toldOf bufferAfter bytesOf
+shown-seen t r (answer (reply cluster bytes u)) = written-seen cluster (answer bytes) (r .buffer) t
 shown-seen t r (answer (leave q)) = refl
 shown-seen t r (refusal n) = refl
 
+-- and of what our server does
 pub seen-shown : (h : Host) (t : BindingTable) (r : Request) → seen (dispatcher h .serve t r) ≡ shown (answered h t (askedOf r))
 unfolding withTable dispatcher
 seen-shown h t r = shown-seen t r (answered h t (askedOf r))

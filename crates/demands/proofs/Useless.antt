@@ -2,8 +2,9 @@
 -- nothing.
 use Prim.Native.Nat.{ℕ}
 use native.Mathlib.Omega.{arith}
-use mathlib.Core.Path.{_≡_, refl, ap}
+use mathlib.Core.Path.{_≡_, refl, sym, ap}
 use mathlib.Core.Bool.{Bool, true, false, false≢true}
+use lib.Dec.{eqb}
 use mathlib.Core.List.{List, [], _∷_}
 use Rattle.zigbee_types.specs.Lists.{all, any, filter, find, option}
 use Rattle.zigbee_types.specs.Outcome.{Outcome, answer, refusal, andThen, mapped, needing, fitted, written}
@@ -49,7 +50,7 @@ nothing-seen :
 unfolding holdingNothing
 nothing-seen cluster bytes limit r = written-seen (cluster limit (askedOf r)) (fitted (askedOf r .room) (bytes limit (askedOf r))) (r .buffer) limit
 
--- so one that does not look at its limit meets it
+-- so one that does not look at its limit is alike with any two
 nothing-alike :
     (cluster : Asked → ℕ) (bytes : Asked → Outcome (List ℕ)) (x y : ℕ) (r u : Request)
     → askedOf r ≡ askedOf u
@@ -57,9 +58,10 @@ nothing-alike :
 nothing-alike cluster bytes x y r u is =
     rw (nothing-seen (λ limit. cluster) (λ limit. bytes) x r, nothing-seen (λ limit. cluster) (λ limit. bytes) y u, is) (equal _)
 
+-- so it meets it
 nothing-meets : (cluster : Asked → ℕ) (bytes : Asked → Outcome (List ℕ)) → Demand3 (holdingNothing (λ limit. cluster) (λ limit. bytes))
 unfolding holdingNothing
-nothing-meets cluster bytes less more e l rs us is = record { entries = λ b h. h; answers = nothing-alike cluster bytes _ _ }
+nothing-meets cluster bytes less more e l rs qs is = record { entries = λ b h. h; answers = nothing-alike cluster bytes _ _ }
 
 -- alike answers are told alike
 alike-told : {cluster : ℕ} {s u : Seen} → Alike cluster s u → s .told ≡ u .told
@@ -77,9 +79,9 @@ no-bytes (refusal n) buffer = refl
 -- so one that tells what ours tells, without the bytes, meets it
 silent-meets : (h : Host) → Demand3 (silent h)
 unfolding silent withTable dispatcher comesOf seen
-silent-meets h less more e l rs us is =
-    let ours = more-room h less more e l rs us is in
-    record { entries = ours .entries; answers = λ r u asks. rw (no-bytes, no-bytes, alike-told (ours .answers r u asks)) (equal _) }
+silent-meets h less more e l rs qs is =
+    let ours = more-room h less more e l rs qs is in
+    record { entries = ours .entries; answers = λ r q asks. rw (no-bytes, no-bytes, alike-told (ours .answers r q asks)) (equal _) }
 
 -- tables stay what they are to each other where both are left without room
 behind-sealed : {t u : BindingTable} → Behind t u → Behind (sealed t) (sealed u)
@@ -89,17 +91,18 @@ behind-sealed {t} {u} b = behind-limited (t .count) (u .count) b (omega arith) (
 -- so one that is left so after each call meets it
 once-meets : (h : Host) → Demand3 (once h)
 unfolding withTable once seen
-once-meets h less more e l rs us is =
-    let b = left-alike (nextState (once h)) askedOf Behind (λ t u r q asks s. behind-sealed (behind-state h t u r q asks s)) rs us is (behind-empty less more e l) in
+once-meets h less more e l rs qs is =
+    let b = left-alike (nextState (once h)) askedOf Behind (λ t u r q asks s. behind-sealed (behind-state h t u r q asks s)) rs qs is (behind-empty less more e l) in
     record { entries = behind-ordered b .entries; answers = behind-alike h b }
 
--- nine in a match reply leaves the table as it was, and the replies to bind and unbind
+-- nine in a match reply leaves the table as it was
 nine-table : (t : BindingTable) (o : Outcome Answer) → tableAfter t (withNine o) ≡ tableAfter t o
 unfolding tableAfter withNine
 nine-table t (answer (reply cluster bytes u)) = refl
 nine-table t (answer (leave q)) = refl
 nine-table t (refusal n) = refl
 
+-- and the replies to bind and unbind
 nine-linked : (cluster seq : ℕ) (t : BindingTable) (c : Call) (s : Step) → cluster ≡ clusterOf c → withNine (answer (linked cluster seq t s)) ≡ answer (linked cluster seq t s)
 unfolding withNine linked
 nine-linked cluster seq t (bind b) s e = rw e
@@ -119,20 +122,22 @@ nine-alike h {t} {u} b a (call c seq e named is) =
     rw (is t (b .less), is u (b .more), nine-linked (a .cluster) seq t c (stepped t c) e, nine-linked (a .cluster) seq u c (stepped u c) e)
     (rw (is t (b .less), is u (b .more)) at (shown-alike h b a (call c seq e named is)))
 
--- and one that invents counts meets it
+-- and so is one that invents counts
 inventing-alike : (h : Host) {t u : BindingTable} → Behind t u → (r q : Request) → askedOf r ≡ askedOf q → Alike (r .cluster) (seen (inventing h .serve t r)) (seen (inventing h .serve u q))
 unfolding inventing asking
 inventing-alike h {t} {u} b r q is =
     rw (shown-seen t r (withNine (answered h t (askedOf r))), shown-seen u q (withNine (answered h u (askedOf q))), ← is) (nine-alike h b (askedOf r) (kind h (askedOf r)))
 
+-- the table after it is ours
 inventing-state : (h : Host) (t u : BindingTable) (r q : Request) → askedOf r ≡ askedOf q → Behind t u → Behind (nextState (inventing h) t r) (nextState (inventing h) u q)
 unfolding inventing withTable dispatcher comesOf
 inventing-state h t u r q is b = rw (nine-table, nine-table) (behind-state h t u r q is b)
 
+-- so it meets it
 inventing-meets : (h : Host) → Demand3 (inventing h)
 unfolding inventing
-inventing-meets h less more e l rs us is =
-    let b = left-alike (nextState (inventing h)) askedOf Behind (inventing-state h) rs us is (behind-empty less more e l) in
+inventing-meets h less more e l rs qs is =
+    let b = left-alike (nextState (inventing h)) askedOf Behind (inventing-state h) rs qs is (behind-empty less more e l) in
     record { entries = behind-ordered b .entries; answers = inventing-alike h b }
 
 -- ---- they differ from ours
@@ -142,23 +147,23 @@ abbrev isAnswer : Outcome Told → Bool
 isAnswer (answer a) = true
 isAnswer (refusal n) = false
 
--- a byte that is seen
-abbrev byteSeen : ℕ → Seen → ℕ
-byteSeen i s = byteOf (s .bytes) i
+-- is this byte seen at a place?
+abbrev hasByte : ℕ → ℕ → Seen → Bool
+hasByte i b s = eqb (byteOf (s .bytes) i) b
 
 pub useless-versions : UselessVersions
 unfolding all any find option andThen mapped needing fitted written le number numberAt laid size fieldsAt parsed nodeByte0 nodeByte1 nodeDescriptor zeroBinding key alike same holds boundAs bound emptyTable goodTable held placed addrOfInterestWidths addrOfInterestReqIn bindWidths bindReqOf groupIn destinationIn bindReqIn bindingTo bindingOf header nodeDescRsp statusFields statusRsp used endpointRecord supportsEndpoint recordFits goodSizes goodRecords goodDevice asking goodHost about onNode discovery discovered stepOf sourceStatus linkStep linkAnswer onLink byCluster answered tableAfter bufferAfter toldOf left comesOf withTable dispatcher bytesOf seen holdingNothing refusing fixed full withoutBytes silent sealed once
 useless-versions =
     record {
       refuses = λ n. record { meets = λ h. nothing-meets (λ a. 0) (λ a. refusal n); differs = λ e. false≢true (ap (λ s. isAnswer (s .told)) e) };
-      replies = record { meets = λ h. nothing-meets (λ a. 0x8002) (λ a. answer nodeReply); differs = λ e. let z : _≡_ {A = ℕ} 7 8 = ap (byteSeen 0) e in omega arith };
-      writesNothing = record { meets = silent-meets; differs = λ e. let z : _≡_ {A = ℕ} 0 7 = ap (byteSeen 0) e in omega arith };
+      replies = record { meets = λ h. nothing-meets (λ a. 0x8002) (λ a. answer nodeReply); differs = λ e. false≢true (sym (ap (hasByte 0 7) e)) };
+      writesNothing = record { meets = silent-meets; differs = λ e. false≢true (ap (hasByte 0 7) e) };
       alwaysFull =
           record {
             meets = λ h. nothing-meets (λ a. replyCluster (a .cluster)) (λ a. answer (byteOf (a .payload) 0 ∷ TABLE-FULL ∷ []));
-            differs = λ e. let z : _≡_ {A = ℕ} TABLE-FULL SUCCESS = ap (byteSeen 1) e in omega arith;
+            differs = λ e. false≢true (ap (hasByte 1 SUCCESS) e);
           };
-      bindsOnce = record { meets = once-meets; differs = λ e. let z : _≡_ {A = ℕ} TABLE-FULL SUCCESS = ap (byteSeen 1) e in omega arith };
+      bindsOnce = record { meets = once-meets; differs = λ e. false≢true (ap (hasByte 1 SUCCESS) e) };
     }
 
 -- ---- an invented count
@@ -172,8 +177,8 @@ unfolding all any filter find option andThen mapped needing fitted written le nu
 invented-count =
     record {
       meets = inventing-meets;
-      matching = λ rule. let z : _≡_ {A = ℕ} 9 1 = ap (λ bytes. byteOf bytes 0) (rule (emptyTable 32) matchRequest refl refl) in omega arith;
-      history = λ rule. let z : _≡_ {A = ℕ} 2 1 = rule 32 (bindRequestA ∷ []) in omega arith;
+      matching = λ rule. false≢true (ap (λ bytes. eqb (byteOf bytes 0) 1) (rule (emptyTable 32) matchRequest refl refl));
+      history = λ rule. false≢true (ap (λ n. eqb n 1) (rule 32 (bindRequestA ∷ [])));
     }
 
 -- ---- a server that demand 3 excludes
@@ -182,5 +187,4 @@ pub limit-told : LimitTold
 unfolding among any asking written fitted mapped holdingNothing tellingLimit bytesOf seen left
 limit-told demand =
     let one = demand 0 1 (omega arith) (omega arith) [] [] refl .answers (nodeRequest 7) (nodeRequest 7) refl in
-    let z : _≡_ {A = ℕ} 1 0 = ap (byteSeen 0) (others-same _ _ _ refl one) in
-    omega arith
+    false≢true (ap (hasByte 0 0) (others-same _ _ _ refl one))

@@ -30,31 +30,30 @@ pub data Alike (cluster : ℕ) : Seen → Seen → Type 0 where
 -- both, what is seen is alike
 pub record Ahead {S : Type 0} (s : Server S) (x y : S) : Type 0 where
   pub entries : (b : Binding) → holds b (s .entries x) ≡ true → holds b (s .entries y) ≡ true
-  pub answers : (r u : Request) → askedOf r ≡ askedOf u → Alike (r .cluster) (seen (s .serve x r)) (seen (s .serve y u))
+  pub answers : (r q : Request) → askedOf r ≡ askedOf q → Alike (r .cluster) (seen (s .serve x r)) (seen (s .serve y q))
 
 -- so it is at each step of two runs in which the same is asked, with buffers of the same lengths, from empty, the second with an equal or
--- larger limit, both at most 32: rs and us are the requests so far, and `answers` speaks of the next one
+-- larger limit, both at most 32: rs and qs are the requests so far, and `answers` speaks of the next one
 abbrev pub Demand3 : {S : Type 0} → Server S → Type 0
 Demand3 s =
     (less more : ℕ)
     → less ≤ more
     → more ≤ 32
-    → (rs us : List Request)
-    → map askedOf rs ≡ map askedOf us
-    → Ahead s (stateAfter s (s .empty less) rs) (stateAfter s (s .empty more) us)
+    → (rs qs : List Request)
+    → map askedOf rs ≡ map askedOf qs
+    → Ahead s (stateAfter s (s .empty less) rs) (stateAfter s (s .empty more) qs)
 
 -- our server meets it, whatever the host
 abbrev pub MoreRoom : Type 0
 MoreRoom = (h : Host) → Demand3 (dispatcher h)
 
--- by what `Alike` permits, a bind or an unbind that has SUCCESS in the first run has it in the second, with the same bytes
+-- by what `Alike` permits, what has SUCCESS in the first run has it in the second, with the same bytes
 abbrev pub SuccessStays : Type 0
 SuccessStays =
     (cluster : ℕ) (told : Outcome Told) (seq : ℕ) (rest : List ℕ) (s : Seen)
-    → among linkClusters cluster ≡ true
     → Alike cluster (replying told seq SUCCESS rest) s
     → s ≡ replying told seq SUCCESS rest
 
--- and what is seen of any other request is the same in both
+-- and what is seen of any request but a bind or an unbind is the same in both
 abbrev pub OthersSame : Type 0
 OthersSame = (cluster : ℕ) (s u : Seen) → among linkClusters cluster ≡ false → Alike cluster s u → u ≡ s

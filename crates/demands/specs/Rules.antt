@@ -65,9 +65,9 @@ module _ {S : Type 0} (s : Server S) (x : S) (r : Request) where
   unfoldable pub bindAdds : Bool
   bindAdds = succeedsAs BIND-REQ && (not (namedHeld (r .payload) (s .entries x)) && namedHeld (r .payload) (s .entries (nextState s x r)))
 
-  -- an unbind removed if its status is SUCCESS and a same entry was held before
+  -- an unbind removed if its status is SUCCESS, a same entry was held before, and none is held after it
   unfoldable pub unbindRemoves : Bool
-  unbindRemoves = succeedsAs UNBIND-REQ && namedHeld (r .payload) (s .entries x)
+  unbindRemoves = succeedsAs UNBIND-REQ && (namedHeld (r .payload) (s .entries x) && not (namedHeld (r .payload) (s .entries (nextState s x r))))
 
 -- over any requests from empty, whatever the limit, the count and the unbinds that removed are together the binds that added
 abbrev pub HistoryRule : {S : Type 0} → Server S → Type 0
