@@ -79,5 +79,6 @@ pub record Seen : Type 0 where
   pub told : Outcome Told
   pub bytes : List ℕ
 
+-- so it is of what comes of a request
 unfoldable pub seen : {S : Type 0} → Served S → Seen
 seen s = record { told = s .told; bytes = bytesOf (s .told) (s .buffer) }
