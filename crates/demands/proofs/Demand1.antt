@@ -41,7 +41,7 @@ use Rattle.demands.specs.Demand1.{runsPast, badDevice, badTable, badTabl
 use Rattle.demands.proofs.ReadersRefuse.{byte-read}
 use Rattle.demands.proofs.Frames.{reply-lengths}
 
--- ---- numbers
+-- ---- what is shown of an answer
 
 -- what is shown of an answer: of a reply its cluster and its length, of a leave nothing
 data Outline : Type 0 where
@@ -80,7 +80,7 @@ module _ (h : Host) (a : Asked) where
   abbrev expected : Outline
   expected = cond (eqb (a .cluster) MGMT-LEAVE-REQ) aLeave (aReply (a .cluster + 0x8000) (roomNeeded h a))
 
-  -- so it is of a request, by whether the tables are bad
+  -- what is shown of a request, by whether the tables are bad
   abbrev first : Bool → Outcome Outline
   first bad = firstOf bad (unknown a) (malformed a) (crowded h a) (tooLong h a) expected
 
@@ -131,7 +131,7 @@ module _ (h : Host) (a : Asked) where
 turned : (a b : ℕ) → leb a b ≡ not (ltb b a)
 turned a b = (elim (ltb b a) as (λ t. ltb b a ≡ t → leb a b ≡ not t) [ true ↦ λ e. lt-leb a b (ltb-true b a e) | false ↦ λ e. le-leb a b (ltb-false b a e) ]) refl
 
--- a number is not two
+-- no number equals two different ones
 apart : (n a b : ℕ) → eqb a b ≡ false → (eqb n a && eqb n b) ≡ false
 apart n a b e = (elim (eqb n a) as (λ t. eqb n a ≡ t → (t && eqb n b) ≡ false) [ true ↦ λ same. rw (eqb-true n a same) e | false ↦ λ _. refl ]) refl
 
@@ -307,7 +307,7 @@ module _ (payload : List ℕ) where
       let second : 6 + 2 * n + 1 ≡ 7 + 2 * n = omega arith in
       rw (byte-read payload 5, byte-read payload (6 + 2 * n), second)
 
-  -- so many are found
+  -- the reply to it has this length
   match-length :
       (h : Host)
       → mapped length (onMatch (h .device .node .«logical_type») (resolved h) (h .«nwk_addr») payload matchReq)

@@ -53,7 +53,7 @@ kept-shown t u (refusal n) = refl
 abbrev statusSeen : ℕ → ℕ → ℕ → Seen
 statusSeen cluster seq status = alike.replying (answer (replied (replyCluster cluster) 2)) seq status []
 
--- of two calls whose statuses agree, what is seen is alike
+-- where the statuses of one call on two tables agree, what is seen is alike
 agree-alike : (cluster : ℕ) (seq : ℕ) (c : Call) (m n : ℕ) → cluster ≡ clusterOf c → Agree c (answer m) (answer n) → Alike cluster (statusSeen cluster seq m) (statusSeen cluster seq n)
 agree-alike cluster seq c m n e (equal _ _) = alike.equal _
 agree-alike cluster seq c m n e (room b) = alike.room _ seq [] e

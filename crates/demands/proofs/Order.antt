@@ -1,4 +1,4 @@
--- A run with more room holds at least as much, and refuses no more. Assumes nothing.
+-- A run with more room holds all that the other holds, and has SUCCESS wherever the other has. Assumes nothing.
 use Prim.Native.Nat.{ℕ, _+_, _≤_}
 use native.Mathlib.Omega.{arith}
 use mathlib.Core.Path.{_≡_, refl, sym, _∙_}
@@ -85,6 +85,7 @@ module _ {m n : ℕ} {xs ys : List Binding} (a : Covered m n xs ys) where
         spare = omega (arith, length-without b xs hx, length-without b ys hy);
       }
 
+  -- one call in both runs, case by case
   both-next : {c : Call} {s l : Step} → length xs ≤ m → length ys ≤ n → Stepped m xs c s → Stepped n ys c l → Next m n c s l
   both-next small large (again b hx) (again _ hy) = (a, equal _ _)
   both-next small large (again b hx) (full _ hy k) = missing b hx hy
@@ -108,6 +109,7 @@ pub record Behind (t u : BindingTable) : Type 0 where
   pub more : Good u
   ahead : Covered (t .limit) (u .limit) (held t) (held u)
 
+-- so it is with the steps on two tables
 stepped-next : {t u : BindingTable} (c : Call) → Behind t u → Next (t .limit) (u .limit) c (stepped t c) (stepped u c)
 stepped-next {t} {u} c r =
     let small : length (held t) ≤ t .limit = omega (arith, held-length (r .less)) in

@@ -50,7 +50,7 @@ plainBytes (answer (replies cluster bytes)) = bytes
 plainBytes (answer (leaves q)) = []
 plainBytes (refusal n) = []
 
--- the request of a call, and its entry
+-- the cluster of a call's request, and the entry that it names
 abbrev pub clusterOf : Call → ℕ
 clusterOf (bind b) = BIND-REQ
 clusterOf (unbind b) = UNBIND-REQ
@@ -63,7 +63,7 @@ entryOf (unbind b) = b
 unfoldable pub linked : ℕ → ℕ → BindingTable → Step → Answer
 linked cluster seq t s = reply (replyCluster cluster) (laid (statusFields seq (s .status))) (placed t (s .entries))
 
--- a request does nothing to any good table, and is then no bind and no unbind that succeeds; or it is a call, and named its entry
+-- a request does nothing to any good table, and is then no bind and no unbind that succeeds; or it is a call, and names its entry
 pub data Kind (h : Host) (a : Asked) : Type 0 where
   idle :
       (o : Outcome Plain)

@@ -188,7 +188,7 @@ module _ (h : Host) (t : BindingTable) (r : Request) where
       let after : Whole (next t c) = record { places = long; once = rw (next-held c g) (once-step (step-cases t c) (w .once)) } in
       (rw (state-after, is t g, call-table (r .cluster) seq c g) after, rw (state-after, is t g, call-table (r .cluster) seq c g, add, remove) even)
 
-  -- and on one that is not good, which stays
+  -- and on any table: one that is not good stays
   request-turn : Whole t → Turn
   unfolding mapped plainBytes saysSuccess
   request-turn w = go (goodTable t) refl
@@ -223,7 +223,7 @@ call-built : (c : Call) → Built (entryOf c) → BuiltCall c
 call-built (bind b) built = built
 call-built (unbind b) built = tt
 
--- what a request leaves
+-- a request keeps it so
 reached-request : (h : Host) (t : BindingTable) (r : Request) → Kind h (askedOf r) → Reached t → Reached (nextState (dispatcher h) t r)
 unfolding asking
 reached-request h t r (idle o _ _ is) s = rw (state-after h t r, is t (sound-good (s .sound)), kept-table) s

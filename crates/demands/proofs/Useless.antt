@@ -128,7 +128,7 @@ unfolding inventing asking
 inventing-alike h {t} {u} b r q is =
     rw (shown-seen t r (withNine (answered h t (askedOf r))), shown-seen u q (withNine (answered h u (askedOf q))), ← is) (nine-alike h b (askedOf r) (kind h (askedOf r)))
 
--- the table after it is ours
+-- two of its tables stay to each other as ours do
 inventing-state : (h : Host) (t u : BindingTable) (r q : Request) → askedOf r ≡ askedOf q → Behind t u → Behind (nextState (inventing h) t r) (nextState (inventing h) u q)
 unfolding inventing withTable dispatcher comesOf
 inventing-state h t u r q is b = rw (nine-table, nine-table) (behind-state h t u r q is b)

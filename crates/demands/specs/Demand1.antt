@@ -1,7 +1,7 @@
 -- The first demand, as a statement: each request comes to a reply, to a leave, or to a refusal by one of document 01's five numbers; a
 -- refusal changes neither buffer nor binding table; and each number is given exactly when document 01 says, in numbers of the payload,
 -- the tables and the room ("Refusal numbers", "Payloads", "Replies"). A term of it stands in proofs/. (That each call ends is proved of
--- every function with its contract.) No parser and no reply stands in the conditions; how many records match a request goes by the rule
+-- every function with its contract. What the other public functions refuse, their contracts say.) No parser and no reply stands in the conditions; how many records match a request goes by the rule
 -- itself, `matches`.
 use Prim.Native.Nat.{ℕ, _+_, _*_, _≤_}
 use mathlib.Core.Path.{_≡_}
@@ -27,7 +27,7 @@ use Rattle.demands.specs.ReadersRefuse.{byteOf, shorter}
 
 -- ---- 1: tables
 
--- does a record run past one of its pools? A part without clusters must start within its pool too
+-- does a record run past one of its pools? A part without clusters may not start past the end of its pool either
 unfoldable pub runsPast : Pools → EndpointDescriptor → Bool
 runsPast p e =
     ltb (length (p .inputs)) (e .«input_start» + e .«input_count»)

@@ -14,7 +14,7 @@ use Rattle.zdo_dispatcher.specs.Answers.{Told}
 use Rattle.demands.specs.Demand1.{linkClusters, among}
 use Rattle.demands.specs.Servers.{Request, askedOf, Server, stateAfter, dispatcher, Seen, seen}
 
--- a reply whose byte 1 is this status
+-- what is seen where byte 1 of the reply is this status
 abbrev pub replying : Outcome Told → ℕ → ℕ → List ℕ → Seen
 replying told seq status rest = record { told = told; bytes = seq ∷ status ∷ rest }
 

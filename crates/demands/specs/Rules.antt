@@ -82,14 +82,15 @@ HistoryKept = (h : Host) → HistoryRule (dispatcher h)
 
 -- ---- the table after any requests
 
--- no entry stands twice in it, the count is within the limit, zeros stand behind the count, and only formed entries are held
+-- from empty, with a limit of at most 32: no entry stands twice in it, the count is within the limit, zeros stand behind the count, and
+-- only formed entries are held
 abbrev pub ReachedByRequests : Type 0
 ReachedByRequests = (h : Host) (limit : ℕ) → limit ≤ 32 → (rs : List Request) → Reached (stateAfter (dispatcher h) (emptyTable limit) rs)
 
 -- ---- matching
 
--- for a host: in every state, a match reply with the status SUCCESS has from byte 4 on how many endpoints match, and their numbers in
--- table order
+-- for a host: in every state, a match reply with the status SUCCESS has from byte 4 on how many endpoints match, and their numbers, each
+-- as a byte, in table order
 abbrev pub MatchingRule : {S : Type 0} → Host → Server S → Type 0
 MatchingRule {S} h s =
     (x : S) (r : Request)

@@ -46,7 +46,7 @@ supportsEndpoint d n = option false (λ e. true) (endpointRecord d n)
 -- ---- when tables are good. Matching and the simple reply give refusal 1 for others; the active reply is lent no pools, and gives
 -- it for a count above 32.
 
--- a record's two parts end within their pools; a part without clusters must start there too
+-- a record's two parts end within their pools; a part without clusters may not start past the end either
 unfoldable pub recordFits : Pools → EndpointDescriptor → Bool
 recordFits p e = leb (e .«input_start» + e .«input_count») (length (p .inputs)) && leb (e .«output_start» + e .«output_count») (length (p .outputs))
 
