@@ -140,7 +140,7 @@ neither : (a b : Bool) → (not a && not b) ≡ not (a || b)
 neither true b = refl
 neither false b = refl
 
--- of two numbers that are to be at most 32, the greater says it
+-- where the greater of two numbers is at most 32, the lesser need not be tested
 greater-few : (m n : ℕ) (b c d : Bool) → n ≤ m → (leb m 32 && (leb n 32 && b && c && d)) ≡ (leb m 32 && b && c && d)
 greater-few m n b c d less = go (leb m 32) refl
   where
