@@ -43,12 +43,12 @@ use Rattle.demands.proofs.Frames.{reply-lengths}
 
 -- ---- what is shown of an answer
 
--- what is shown of an answer: of a reply its cluster and its length, of a leave nothing
+-- of a reply its cluster and its length, of a leave nothing
 data Outline : Type 0 where
   aReply : ℕ → ℕ → Outline
   aLeave : Outline
 
--- so it is of an answer
+-- what an answer shows
 unfoldable outline : Answer → Outline
 outline (reply cluster bytes u) = aReply cluster (length bytes)
 outline (leave q) = aLeave

@@ -50,7 +50,7 @@ nothing-seen :
 unfolding holdingNothing
 nothing-seen cluster bytes limit r = written-seen (cluster limit (askedOf r)) (fitted (askedOf r .room) (bytes limit (askedOf r))) (r .buffer) limit
 
--- so one that does not look at its limit is alike with any two
+-- so what is seen of one that does not look at its limit is the same with any two limits
 nothing-alike :
     (cluster : Asked → ℕ) (bytes : Asked → Outcome (List ℕ)) (x y : ℕ) (r u : Request)
     → askedOf r ≡ askedOf u
@@ -122,7 +122,7 @@ nine-alike h {t} {u} b a (call c seq e named is) =
     rw (is t (b .less), is u (b .more), nine-linked (a .cluster) seq t c (stepped t c) e, nine-linked (a .cluster) seq u c (stepped u c) e)
     (rw (is t (b .less), is u (b .more)) at (shown-alike h b a (call c seq e named is)))
 
--- and so is one that invents counts
+-- and so is what is seen of one that invents counts
 inventing-alike : (h : Host) {t u : BindingTable} → Behind t u → (r q : Request) → askedOf r ≡ askedOf q → Alike (r .cluster) (seen (inventing h .serve t r)) (seen (inventing h .serve u q))
 unfolding inventing asking
 inventing-alike h {t} {u} b r q is =
