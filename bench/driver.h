@@ -89,4 +89,7 @@ static inline __attribute__((always_inline)) u64 stack_pointer(void) {
     BEGIN; CALL; END; \
 } while (0)
 
-static __attribute__((noinline)) void copied(struct table *to, const struct table *from) { *to = *from; }
+static __attribute__((noinline)) void copied(struct table *to, const struct table *from) {
+    memcpy(to, from, sizeof *to);
+    __asm__ volatile("" ::"r"(to) : "memory");
+}

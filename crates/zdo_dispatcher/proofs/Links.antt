@@ -129,28 +129,24 @@ module _ (l : Link) (source : ℕ) (t : BindingTable) (q : BindReq) (cluster : �
         rw (ne-eqb source SUCCESS (λ e. other (is-source ∙ e)), held-stays t (count-inside (good-table t long good)))
         (dispatched-reply (replyCluster cluster) (statusRsp (q .seq) source) t w is (kept (replyCluster cluster) t (fitted (length out) (statusRsp (q .seq) source))))
 
-  module _ {after : List ℕ} {n : Outcome ℕ} {told : Outcome Told} (room : 2 ≤ length out) (is : told ≡ mapped (replied (replyCluster cluster)) n) (good : goodTable t ≡ true) where
-    -- the source is ours: the table makes a step
-    stepped :
-        (step : Step) {m : Outcome ℕ} {u : BindingTable}
-        → Leaves (answer step) t m u
-        → Wrote (andThen m (statusRsp (q .seq))) out n after
-        → Dispatched (mapped (λ bytes. reply (replyCluster cluster) bytes (placed t (step .entries))) (fitted (length out) (statusRsp (q .seq) (step .status)))) t out told u after
-    unfolding mapped tableLeft andThen
-    stepped step h w =
-        let u = placed t (step .entries) in
-        rw (h .left)
-        (dispatched-reply (replyCluster cluster) (statusRsp (q .seq) (step .status)) u (rw (h .said) at w) is (brings (q .seq) (step .status) (replyCluster cluster) t u out room))
+module _ (l : Link) (t : BindingTable) (q : BindReq) (cluster : ℕ) (out : List ℕ) {after : List ℕ} {n : Outcome ℕ} {told : Outcome Told} (room : 2 ≤ length out) (is : told ≡ mapped (replied (replyCluster cluster)) n) (good : goodTable t ≡ true) where
+  -- the source is ours: the table makes a step
+  stepped :
+      (step : Step) {m : Outcome ℕ} {u : BindingTable}
+      → Leaves (answer step) t m u
+      → Wrote (andThen m (statusRsp (q .seq))) out n after
+      → Dispatched (mapped (λ bytes. reply (replyCluster cluster) bytes (placed t (step .entries))) (fitted (length out) (statusRsp (q .seq) (step .status)))) t out told u after
+  unfolding mapped tableLeft andThen
+  stepped step h w =
+      let u = placed t (step .entries) in
+      rw (h .left)
+      (dispatched-reply (replyCluster cluster) (statusRsp (q .seq) (step .status)) u (rw (h .said) at w) is (brings (q .seq) (step .status) (replyCluster cluster) t u out room))
 
-    pub link-made :
-        {code : ℕ} {b : Binding} {m : Outcome ℕ} {u : BindingTable}
-        → code ≡ source
-        → code ≡ SUCCESS
-        → b ≡ bindingOf q
-        → Leaves (onGood t (stepOf l t b)) t m u
-        → Wrote (andThen m (statusRsp (q .seq))) out n after
-        → Dispatched (linkAnswer l source t q cluster (length out)) t out told u after
-    unfolding linkAnswer linkStep onGood
-    link-made is-source ours named h w =
-        let step = stepOf l t (bindingOf q) in
-        rw (eq-eqb source SUCCESS (sym is-source ∙ ours)) (stepped step (rw (named, good) at h) w)
+  pub link-made :
+      {b : Binding} {m : Outcome ℕ} {u : BindingTable}
+      → b ≡ bindingOf q
+      → Leaves (onGood t (stepOf l t b)) t m u
+      → Wrote (andThen m (statusRsp (q .seq))) out n after
+      → Dispatched (linkAnswer l SUCCESS t q cluster (length out)) t out told u after
+  unfolding linkAnswer linkStep onGood
+  link-made named h w = stepped (stepOf l t (bindingOf q)) (rw (named, good) at h) w

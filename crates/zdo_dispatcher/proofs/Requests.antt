@@ -44,21 +44,16 @@ module _ (payload : List ℕ) where
   module _ (l : Link) (d : DeviceDescriptorConfig) (long : IeeeAddress) (t : BindingTable) (cluster : ℕ) (out : List ℕ) {r : BindReqRead} (said : bindReqSays r ≡ bindReqIn payload) where
     -- a bind or an unbind request
     pub link-read :
-        {q : BindReq} {source : ℕ} {told : Outcome Told} {u : BindingTable} {after : List ℕ}
+        {q : BindReq}
         → r ≡ bind.Request q
-        → source ≡ sourceStatus d long q
-        → Dispatched (linkAnswer l source t q cluster (length out)) t out told u after
-        → Dispatched (andThen (bindReqIn payload) (onLink l d long t (asking cluster payload out))) t out told u after
+        → andThen (bindReqIn payload) (onLink l d long t (asking cluster payload out)) ≡ linkAnswer l (sourceStatus d long q) t q cluster (length out)
     unfolding bindReqSays andThen onLink asking
-    link-read is ours h = rw (← said, is, ← ours) h
+    link-read is = rw (← said, is)
 
     -- none
-    pub link-unread :
-        {why : Refusal}
-        → r ≡ bind.Refused why
-        → Dispatched (andThen (bindReqIn payload) (onLink l d long t (asking cluster payload out))) t out (responseSays (response.Refused why)) t out
-    unfolding bindReqSays andThen responseSays
-    link-unread {why} is = rw (← said, is) (dispatched-refused why t out (refusalNumber why) refl)
+    pub link-unread : {why : Refusal} → r ≡ bind.Refused why → andThen (bindReqIn payload) (onLink l d long t (asking cluster payload out)) ≡ refusal (refusalNumber why)
+    unfolding bindReqSays andThen
+    link-unread is = rw (← said, is)
 
   module _ {r : MgmtLeaveReqRead} (said : mgmtLeaveReqSays r ≡ mgmtLeaveReqIn payload) where
     -- a leave request
@@ -81,59 +76,19 @@ left t before (refusal n) e = record { said = e; table = refl; buffer = refl }
 
 -- ---- the tables
 
-module _ (h : Host) (t : BindingTable) {p q : Bool} (device : p ≡ goodDevice (h .pools) (h .device)) (table : q ≡ goodSizes (t .count) (t .limit)) where
-  -- both were tested
-  both : (p && q) ≡ (goodHost h && goodTable t)
-  unfolding goodHost goodTable
-  both = rw (device, table)
+-- they were found bad
+pub bad-tables :
+    (h : Host) (t : BindingTable) (cluster : ℕ) (payload out : List ℕ) {x y : Bool}
+    → x ≡ goodDevice (h .pools) (h .device)
+    → y ≡ goodSizes (t .count) (t .limit)
+    → not (x && y) ≡ true
+    → Dispatched (answered h t (asking cluster payload out)) t out (responseSays (response.Refused BadTables)) t out
+unfolding answered goodHost goodTable responseSays
+bad-tables h t cluster payload out {x} {y} device table bad =
+    let both : (x && y) ≡ (goodDevice (h .pools) (h .device) && goodSizes (t .count) (t .limit)) = rw (device, table) in
+    rw (said-no both bad) (dispatched-refused BadTables t out 1 refl)
 
-  module _ (cluster : ℕ) (payload out : List ℕ) where
-    -- they are not good
-    pub bad-tables : not (p && q) ≡ true → Dispatched (answered h t (asking cluster payload out)) t out (responseSays (response.Refused BadTables)) t out
-    unfolding answered responseSays
-    bad-tables bad = rw (said-no both bad) (dispatched-refused BadTables t out 1 refl)
-
-    module _ (good : not (p && q) ≡ false) where
-      -- they are
-      by : answered h t (asking cluster payload out) ≡ byCluster h t (asking cluster payload out)
-      unfolding answered
-      by = rw (said-yes both good)
-
-      -- ---- by the cluster
-
-      module _ {told : Outcome Told} {u : BindingTable} {after : List ℕ} where
-        pub at-bind :
-            cluster ≡ BIND-REQ
-            → Dispatched (andThen (bindReqIn payload) (onLink Bind (h .device) (h .«ieee_addr») t (asking cluster payload out))) t out told u after
-            → Dispatched (answered h t (asking cluster payload out)) t out told u after
-        unfolding byCluster asking
-        at-bind e w = rw (by, e) (rw e at w)
-
-        pub at-unbind :
-            cluster ≡ UNBIND-REQ
-            → Dispatched (andThen (bindReqIn payload) (onLink Unbind (h .device) (h .«ieee_addr») t (asking cluster payload out))) t out told u after
-            → Dispatched (answered h t (asking cluster payload out)) t out told u after
-        unfolding byCluster asking
-        at-unbind e w = rw (by, e) (rw e at w)
-
-      pub at-leave :
-          {told : Outcome Told}
-          → cluster ≡ MGMT-LEAVE-REQ
-          → told ≡ mapped leaving (mgmtLeaveReqIn payload)
-          → Dispatched (answered h t (asking cluster payload out)) t out told t out
-      unfolding byCluster asking
-      at-leave e f = rw (by, e) (left t out (mgmtLeaveReqIn payload) f)
-
-      pub at-discovery :
-          {told : Outcome Told} {after : List ℕ}
-          → Unnamed Unit (λ k. k) cluster (BIND-REQ ∷ UNBIND-REQ ∷ MGMT-LEAVE-REQ ∷ [])
-          → ((u : BindingTable) → Dispatched (mapped (λ bytes. reply (replyCluster cluster) bytes u) (discovered h (asking cluster payload out))) u out told u after)
-          → Dispatched (answered h t (asking cluster payload out)) t out told t after
-      unfolding byCluster asking
-      at-discovery (((none, bind), unbind), leaves) w =
-          rw (by, ne-eqb cluster BIND-REQ bind, ne-eqb cluster UNBIND-REQ unbind, ne-eqb cluster MGMT-LEAVE-REQ leaves) (w t)
-
--- tables that were found good
+-- they were found good
 module _ (p : Pools) (d : DeviceDescriptorConfig) (t : BindingTable) {x y : Bool} (device : x ≡ goodDevice p d) (table : y ≡ goodSizes (t .count) (t .limit)) (good : not (x && y) ≡ false) where
   each : (x ≡ true) × (y ≡ true)
   each = and-eq-true-iff x y .0 (said-yes refl good)
@@ -144,6 +99,42 @@ module _ (p : Pools) (d : DeviceDescriptorConfig) (t : BindingTable) {x y : Bool
   pub table-good : goodTable t ≡ true
   unfolding goodTable
   table-good = sym table ∙ each .1
+
+-- ---- by the cluster, of good tables
+
+module _ (h : Host) (t : BindingTable) (device : goodDevice (h .pools) (h .device) ≡ true) (table : goodTable t ≡ true) (cluster : ℕ) (payload out : List ℕ) where
+  by : answered h t (asking cluster payload out) ≡ byCluster h t (asking cluster payload out)
+  unfolding answered goodHost
+  by = rw (device, table)
+
+  pub at-bind :
+      cluster ≡ BIND-REQ
+      → andThen (bindReqIn payload) (onLink Bind (h .device) (h .«ieee_addr») t (asking cluster payload out)) ≡ answered h t (asking cluster payload out)
+  unfolding byCluster asking
+  at-bind e = rw (by, e)
+
+  pub at-unbind :
+      cluster ≡ UNBIND-REQ
+      → andThen (bindReqIn payload) (onLink Unbind (h .device) (h .«ieee_addr») t (asking cluster payload out)) ≡ answered h t (asking cluster payload out)
+  unfolding byCluster asking
+  at-unbind e = rw (by, e)
+
+  pub at-leave :
+      {told : Outcome Told}
+      → cluster ≡ MGMT-LEAVE-REQ
+      → told ≡ mapped leaving (mgmtLeaveReqIn payload)
+      → Dispatched (answered h t (asking cluster payload out)) t out told t out
+  unfolding byCluster asking
+  at-leave e f = rw (by, e) (left t out (mgmtLeaveReqIn payload) f)
+
+  pub at-discovery :
+      {told : Outcome Told} {after : List ℕ}
+      → Unnamed Unit (λ k. k) cluster (BIND-REQ ∷ UNBIND-REQ ∷ MGMT-LEAVE-REQ ∷ [])
+      → ((u : BindingTable) → Dispatched (mapped (λ bytes. reply (replyCluster cluster) bytes u) (discovered h (asking cluster payload out))) u out told u after)
+      → Dispatched (answered h t (asking cluster payload out)) t out told t after
+  unfolding byCluster asking
+  at-discovery (((none, bind), unbind), leaves) w =
+      rw (by, ne-eqb cluster BIND-REQ bind, ne-eqb cluster UNBIND-REQ unbind, ne-eqb cluster MGMT-LEAVE-REQ leaves) (w t)
 
 -- ---- discovery
 

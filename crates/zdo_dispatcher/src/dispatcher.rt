@@ -24,7 +24,7 @@ use zigbee_types::IeeeAddress;
 use zigbee_types::Refusal;
 use zigbee_types::ShortAddress;
 use zigbee_types::Written;
-ghost use Prim.Native.Nat.{ℕ, _^_, _<_};
+ghost use Prim.Native.Nat.{ℕ, _^_, _<_, _≤_};
 ghost use mathlib.Core.Path.{_≡_};
 ghost use mathlib.Core.Bool.{true};
 ghost use lib.ListN.{length};
@@ -33,13 +33,15 @@ ghost use Rattle.zigbee_types.specs.Answers.{writtenSays};
 ghost use Rattle.aps_binding_table.specs.Answers.{linkSays};
 ghost use Rattle.aps_binding_table.specs.Table.{goodTable, onGood, Leaves};
 ghost use Rattle.zdo_requests.specs.Clusters.{replyCluster};
-ghost use Rattle.zdo_requests.specs.Requests.{bindReqIn, mgmtLeaveReqIn};
+ghost use Rattle.zdo_requests.specs.Requests.{mgmtLeaveReqIn};
+ghost use Rattle.zigbee_types.specs.Statuses.{SUCCESS};
 ghost use Rattle.zdo_replies.specs.Codes.{bindCode};
 ghost use Rattle.zdo_replies.specs.Replies.{statusRsp};
 ghost use Rattle.zdo_device.specs.Tables.{pools, goodDevice};
 ghost use Rattle.zdo_discovery.specs.Host.{hostWith, asking};
 ghost use Rattle.zdo_discovery.specs.Discovery.{discovered};
-ghost use Rattle.zdo_dispatcher.specs.Answers.{reply, leaving, replied, responseSays, stepOf, sourceStatus, linkAnswer, onLink, answered, Dispatched};
+ghost use Rattle.zdo_dispatcher.specs.Answers.{reply, leaving, replied, responseSays, stepOf, sourceStatus, linkAnswer, answered, Dispatched};
+ghost use Rattle.zdo_dispatcher.specs.Steps.{linkWith, answeredWith, Stepped};
 
 // What a request came to: a reply that was written, by its cluster and length; a leave, which is handed to the host; or why it was
 // refused.
@@ -119,11 +121,45 @@ fn link_rsp(seq: u8, status: LinkStatus, out: &mut [u8]) -> Written
     }
 }
 
-// Replies to a bind or unbind request whose source has a status, and binds or unbinds where that is SUCCESS. Too short a buffer is refused
-// before anything is stored.
+// What a request comes to without the binding table: an answer, or an entry that is still to be bound or unbound.
+enum Step {
+    Told(Response),
+    Asks { link: Link, request: BindReq },
+}
+
+// Takes a bind or unbind request (2.4.3.2.2, 2.4.3.2.3) as far as it goes without the table. Too short a buffer is refused here, before
+// anything is stored.
+fn link_step(
+    link: Link,
+    device: DeviceDescriptorConfig,
+    ieee_addr: IeeeAddress,
+    cluster: u16,
+    payload: &[u8],
+    out: &mut [u8],
+) -> Step
+    requires { ⌜ cluster < 2 ^ 15 ⌝ }
+    ensures { λ r. ⌜ Stepped (linkWith link device «ieee_addr» (asking cluster (now (payload .entry)) (now (out .entry)))) cluster r (now (out .entry)) (now (out .exit)) ⌝ }
+{
+    let read = parse_bind_req(payload);
+    match read {
+        BindReqRead::Request(request) => {
+            if out.len() < 2 {
+                return Step::Told(Response::Refused(Refusal::ShortBuffer));
+            }
+            let source = source_status(device, ieee_addr, request);
+            if source.code() != STATUS_SUCCESS {
+                let written = bind_rsp(request.seq, source, out);
+                return Step::Told(told(cluster, written));
+            }
+            Step::Asks { link, request }
+        }
+        BindReqRead::Refused(why) => Step::Told(Response::Refused(why)),
+    }
+}
+
+// Binds or unbinds the entry of a request whose source is ours, and replies.
 fn link_answer(
     link: Link,
-    source: BindStatus,
     table: BindingTable,
     request: BindReq,
     cluster: u16,
@@ -131,21 +167,9 @@ fn link_answer(
 ) -> Responded
     requires { ⌜ goodTable table ≡ true ⌝ }
     requires { ⌜ cluster < 2 ^ 15 ⌝ }
-    ensures { λ r. ⌜ Dispatched (linkAnswer link (bindCode source) table request cluster (length (now (out .entry)))) table (now (out .entry)) (responseSays (r .response)) (r .table) (now (out .exit)) ⌝ }
+    requires { ⌜ 2 ≤ length (now out) ⌝ }
+    ensures { λ r. ⌜ Dispatched (linkAnswer link SUCCESS table request cluster (length (now (out .entry)))) table (now (out .entry)) (responseSays (r .response)) (r .table) (now (out .exit)) ⌝ }
 {
-    if out.len() < 2 {
-        return Responded {
-            table,
-            response: Response::Refused(Refusal::ShortBuffer),
-        };
-    }
-    if source.code() != STATUS_SUCCESS {
-        let written = bind_rsp(request.seq, source, out);
-        return Responded {
-            table,
-            response: told(cluster, written),
-        };
-    }
     let linked = bind_or_unbind(link, table, request.binding());
     let status = linked.status;
     let table = linked.table;
@@ -153,33 +177,6 @@ fn link_answer(
     Responded {
         table,
         response: told(cluster, written),
-    }
-}
-
-// Answers a Bind_req or Unbind_req (2.4.3.2.2, 2.4.3.2.3), of a binding table that was checked.
-fn on_link(
-    link: Link,
-    device: DeviceDescriptorConfig,
-    ieee_addr: IeeeAddress,
-    table: BindingTable,
-    cluster: u16,
-    payload: &[u8],
-    out: &mut [u8],
-) -> Responded
-    requires { ⌜ goodTable table ≡ true ⌝ }
-    requires { ⌜ cluster < 2 ^ 15 ⌝ }
-    ensures { λ r. ⌜ Dispatched (andThen (bindReqIn (now (payload .entry))) (onLink link device «ieee_addr» table (asking cluster (now (payload .entry)) (now (out .entry))))) table (now (out .entry)) (responseSays (r .response)) (r .table) (now (out .exit)) ⌝ }
-{
-    let read = parse_bind_req(payload);
-    match read {
-        BindReqRead::Request(request) => {
-            let source = source_status(device, ieee_addr, request);
-            link_answer(link, source, table, request, cluster, out)
-        }
-        BindReqRead::Refused(why) => Responded {
-            table,
-            response: Response::Refused(why),
-        },
     }
 }
 
@@ -228,9 +225,41 @@ fn on_discovery<'a>(
 
 // ---- any request
 
+// Takes a request as far as it goes without the binding table. The tables were checked.
+fn first_step<'a>(
+    device: DeviceDescriptorConfig,
+    ieee_addr: IeeeAddress,
+    nwk_addr: ShortAddress,
+    inputs: &'a [u16],
+    outputs: &'a [u16],
+    cluster: u16,
+    payload: &[u8],
+    out: &mut [u8],
+) -> Step
+    requires { ⌜ goodDevice (pools (now inputs) (now outputs)) device ≡ true ⌝ }
+    ensures { λ r. ⌜ Stepped (answeredWith (hostWith device «ieee_addr» «nwk_addr» (pools (now (inputs .entry)) (now (outputs .entry)))) (asking cluster (now (payload .entry)) (now (out .entry)))) cluster r (now (out .entry)) (now (out .exit)) ⌝ }
+{
+    match cluster {
+        BIND_REQ => link_step(Link::Bind, device, ieee_addr, cluster, payload, out),
+        UNBIND_REQ => link_step(Link::Unbind, device, ieee_addr, cluster, payload, out),
+        MGMT_LEAVE_REQ => Step::Told(on_leave(payload)),
+        _ => Step::Told(on_discovery(
+            device,
+            ieee_addr,
+            nwk_addr,
+            inputs,
+            outputs,
+            cluster,
+            payload,
+            out,
+        )),
+    }
+}
+
 // Answers a request: a reply in the buffer, or a leave for the host, with the table after it. Refused are bad tables, then a cluster
 // that is none of the ten, then a payload that is malformed, then a descriptor of too many clusters, then too short a buffer; buffer
-// and table are then as they were.
+// and table are then as they were. (The table is handed on only where an entry is bound or unbound: each function that takes it copies
+// it.)
 pub fn dispatch<'a>(
     device: DeviceDescriptorConfig,
     ieee_addr: IeeeAddress,
@@ -251,33 +280,20 @@ pub fn dispatch<'a>(
             response: Response::Refused(Refusal::BadTables),
         };
     }
-    match cluster {
-        BIND_REQ => on_link(Link::Bind, device, ieee_addr, table, cluster, payload, out),
-        UNBIND_REQ => on_link(
-            Link::Unbind,
-            device,
-            ieee_addr,
-            table,
-            cluster,
-            payload,
-            out,
-        ),
-        MGMT_LEAVE_REQ => Responded {
-            table,
-            response: on_leave(payload),
-        },
-        _ => Responded {
-            table,
-            response: on_discovery(
-                device,
-                ieee_addr,
-                nwk_addr,
-                inputs,
-                outputs,
-                cluster,
-                payload,
-                out,
-            ),
-        },
+    let step = first_step(
+        device,
+        ieee_addr,
+        nwk_addr,
+        inputs,
+        outputs,
+        cluster,
+        payload,
+        out,
+    );
+    match step {
+        Step::Told(response) => Responded { table, response },
+        Step::Asks { link, request } => {
+            return link_answer(link, table, request, cluster, out);
+        }
     }
 }

@@ -1,10 +1,12 @@
--- `dispatch` meets its contract: bad tables, and then each cluster. Assumes nothing.
+-- `dispatch` meets its contract: bad tables, a first step, and then the table's. Assumes nothing.
 use borrow.Author.Needs.{needs}
-use Rattle.zdo_dispatcher.proofs.Requests.{bad-tables, device-good, table-good, at-bind, at-unbind, at-leave, at-discovery}
+use Rattle.zigbee_types.proofs.Elements.{length-mapped}
+use Rattle.zdo_dispatcher.proofs.Requests.{bad-tables, device-good, table-good}
+use Rattle.zdo_dispatcher.proofs.Steps.{was-told, asks-low, asks-room, was-asked}
 use Rattle.zdo_dispatcher.proofs.dispatcher.dispatch.Statement.{statement}
 use Rattle.zdo_dispatcher.proofs.dispatcher.dispatch.Tie as tie
 
-ruleset laws = (needs, bad-tables, device-good, table-good, at-bind, at-unbind, at-leave, at-discovery)
+ruleset laws = (needs, length-mapped, bad-tables, device-good, table-good, was-told, asks-low, asks-room, was-asked)
 
 pub dispatch-spec : {M : Type 1} → statement M
 dispatch-spec =
@@ -13,14 +15,11 @@ dispatch-spec =
     (λ c κs. search laws)  -- good-tables-requires
     (λ c κs. search laws)  -- good-sizes-requires
     (λ c. search laws)  -- returns
-    (λ c κs. search laws)  -- on-link-requires
-    (λ c κs. search laws)  -- on-link-requires-2
-    (λ c κs. search laws)  -- on-leave-requires
-    (λ c κs. search laws)  -- on-discovery-requires
+    (λ c κs. search laws)  -- first-step-requires
+    (λ c. search laws)  -- enum-known-step
+    (λ c. search laws)  -- enum-known-step-2
+    (λ c κs. (search laws, (search laws, search laws)))  -- link-answer-requires
     (λ c. search laws)  -- same-length
     (λ c. search laws)  -- returns-2
     (λ c. search laws)  -- same-length-2
-    (λ c. search laws)  -- returns-3
-    (λ c. search laws)  -- returns-4
-    (λ c. search laws)  -- same-length-3
-    (λ c. search laws))  -- returns-5
+    (λ c. search (laws, c .before .before .before .before .before .before .before .before .before .before .before .before .before .before .good .1 .1 .1 .1 .1 .0)))  -- returns-3

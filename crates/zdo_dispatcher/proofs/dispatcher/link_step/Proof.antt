@@ -1,0 +1,25 @@
+-- `link_step` meets its contract, at each of its ways out. Assumes nothing.
+use native.Mathlib.Omega.{arith}
+use borrow.Author.Needs.{needs}
+use Rattle.zdo_dispatcher.proofs.Steps.{step-unread, step-full, step-denied, step-asks}
+use Rattle.zdo_dispatcher.proofs.dispatcher.link_step.Statement.{statement}
+use Rattle.zdo_dispatcher.proofs.dispatcher.link_step.Tie as tie
+
+ruleset laws = (needs, step-unread, step-full, step-denied, step-asks)
+
+pub link-step-spec : {M : Type 1} → statement M
+link-step-spec =
+    tie.close
+    (tie.spec
+    (λ c κs. search laws)  -- parse-bind-req-requires
+    (λ c. search laws)  -- enum-known-read
+    (λ c. search laws)  -- returns
+    (λ c κs. search laws)  -- source-status-requires
+    (λ c κs. search laws)  -- code-requires
+    (λ c κs. search laws)  -- bind-rsp-requires
+    (λ c κs. search laws)  -- told-requires
+    (λ c. search laws)  -- same-length
+    (λ c. search laws)  -- returns-2
+    (λ c. search laws)  -- enum-known-read-2
+    (λ c. search laws)  -- returns-3
+    (λ c. search laws))  -- returns-4
