@@ -9,7 +9,6 @@ use native.Mathlib.Numerals.{add-one}
 use native.Mathlib.Omega.{arith}
 use lib.Dec.{ltb, leb·suc-suc}
 use lib.ListN.{length, getD, take, drop, drop-of-length-le}
-use lib.Seq.{length-take-le}
 use borrow.Author.Tests.{lt-ltb}
 use Rattle.zigbee_types.specs.Lists.{any}
 use Rattle.zigbee_types.proofs.Elements.{front-next}
@@ -18,19 +17,19 @@ use Rattle.aps_binding_table.specs.Held.{holds, position, without}
 use Rattle.aps_binding_table.specs.Table.{held}
 use Rattle.aps_binding.specs.declared.binding.Binding.{Binding}
 use Rattle.aps_binding_table.specs.declared.binding.BindingTable.{BindingTable}
+use Rattle.aps_binding_table.proofs.Good.{Good, held-length}
 use Rattle.aps_binding_table.proofs.Shift.{cut}
 
 -- ---- the loop
 
 -- the first i entries held were passed by: none of them is the same
 pub record Passed (b : Binding) (t : BindingTable) (i : ℕ) : Type 0 where
-  pub within : i ≤ t .count
-  pub fits : t .count ≤ length (t .entries)
+  pub good : Good t
   pub left : position b (held t) ≡ i + position b (drop i (held t))
 
 -- none, to begin with
-pub passed-first : {b : Binding} {t : BindingTable} → length (t .entries) ≡ 32 → t .count ≤ 32 → Passed b t 0
-passed-first e h = record { within = omega arith; fits = omega arith; left = sym (zero-add _) }
+pub passed-first : {b : Binding} {t : BindingTable} → Good t → Passed b t 0
+passed-first g = record { good = g; left = sym (zero-add _) }
 
 module _ {b : Binding} {t : BindingTable} {i : ℕ} (p : Passed b t i) where
   module _ (d : Binding) (h : i < t .count) where
@@ -38,7 +37,7 @@ module _ {b : Binding} {t : BindingTable} {i : ℕ} (p : Passed b t i) where
     here : drop i (held t) ≡ getD (t .entries) i d ∷ drop (i + 1) (held t)
     unfolding held
     here =
-        let l : length (take (t .count) (t .entries)) ≡ t .count = length-take-le (t .count) (t .entries) (p .fits) in
+        let l : length (take (t .count) (t .entries)) ≡ t .count = held-length (p .good) in
         front-next (t .count) (t .entries) i d (omega arith)
 
     -- is the one
@@ -50,27 +49,18 @@ module _ {b : Binding} {t : BindingTable} {i : ℕ} (p : Passed b t i) where
     pub passed-next : {r : Bool} → r ≡ same b (getD (t .entries) i d) → r ≡ false → Passed b t (i + 1)
     unfolding position
     passed-next e f =
-        record { within = omega arith; fits = p .fits; left = p .left ∙ rw (here, ← e, f) (omega arith) }
+        record { good = p .good; left = p .left ∙ rw (here, ← e, f) (omega arith) }
 
   -- there is no next
   pub passed-end : t .count ≤ i → i ≡ position b (held t)
-  unfolding position held
+  unfolding position
   passed-end h =
-      let l : length (take (t .count) (t .entries)) ≤ i = rw (length-take-le (t .count) (t .entries) (p .fits)) h in
-      rw (p .left, drop-of-length-le (take (t .count) (t .entries)) {i = i} l) (omega arith)
+      let l : length (held t) ≤ i = rw (held-length (p .good)) h in
+      rw (p .left, drop-of-length-le (held t) {i = i} l) (omega arith)
 
 -- ---- the place that is found
 
 module _ (b : Binding) where
-  pub position-le : (xs : List Binding) → position b xs ≤ length xs
-  unfolding position
-  position-le [] = omega arith
-  position-le (x ∷ xs) =
-      elim (same b x) as (λ s. cond s 0 (position b xs + 1) ≤ length (x ∷ xs)) [
-        | true ↦ omega arith
-        | false ↦ omega (arith, position-le xs)
-      ]
-
   -- an entry is held if its place comes before the end
   pub holds-position : (xs : List Binding) → holds b xs ≡ ltb (position b xs) (length xs)
   unfolding position holds any

@@ -12,6 +12,7 @@ use Rattle.aps_binding.specs.Entry.{groupBinding, zeroBinding}
 use Rattle.aps_binding_table.specs.Table.{held, placed}
 use Rattle.aps_binding.specs.declared.binding.Binding.{Binding}
 use Rattle.aps_binding_table.specs.declared.binding.BindingTable.{BindingTable}
+use Rattle.aps_binding_table.proofs.Good.{Good, count-inside}
 use Rattle.aps_binding_table.proofs.Places.{freed-zeros}
 
 -- ---- any list
@@ -71,11 +72,11 @@ pub record Shifted (t : BindingTable) (at i : ℕ) (u : BindingTable) : Type 0 w
   pub entries : u .entries ≡ moved (t .entries) at (i - at)
 
 -- none, to begin with
-pub shifted-first : {t : BindingTable} {at : ℕ} → length (t .entries) ≡ 32 → at < t .count → t .count ≤ 32 → Shifted t at at t
+pub shifted-first : {t : BindingTable} {at : ℕ} → Good t → at < t .count → Shifted t at at t
 unfolding moved
-shifted-first {t} {at} e h l =
+shifted-first {t} {at} g h =
     let none : at - at ≡ 0 = omega arith in
-    record { from = omega arith; below = h; fits = omega arith; limited = refl; entries = rw none (paste-zero (t .entries) at (drop (at + 1) (t .entries))) }
+    record { from = omega arith; below = h; fits = count-inside g; limited = refl; entries = rw none (paste-zero (t .entries) at (drop (at + 1) (t .entries))) }
 
 module _ {t u : BindingTable} {at i : ℕ} (p : Shifted t at i u) where
   moves : at + (i - at) ≡ i

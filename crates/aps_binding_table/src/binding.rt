@@ -2,12 +2,8 @@
 use aps_binding::binding::Binding;
 use zigbee_types::GroupAddress;
 use zigbee_types::Refusal;
-ghost use Prim.Native.Nat.{_+_, _<_, _≤_};
 ghost use mathlib.Core.Path.{_≡_};
-ghost use mathlib.Core.List.{[], _∷_, _++_};
-ghost use lib.ListN.{take, drop};
-ghost use Rattle.aps_binding_table.specs.Held.{position};
-ghost use Rattle.aps_binding_table.specs.Table.{emptyTable, goodSizes, held, placed, createBindingLink, removeBindingLink, Leaves};
+ghost use Rattle.aps_binding_table.specs.Table.{emptyTable, goodSizes, createBindingLink, removeBindingLink, Leaves};
 ghost use Rattle.aps_binding_table.specs.Answers.{linkSays};
 
 // The binding table as held in the AIB: thirty-two places, of which the first `count` are used, and at most `limit` may be.
@@ -29,47 +25,6 @@ impl BindingTable {
             count: 0,
         }
     }
-
-    // Where the first entry like `binding` is held; the count where none is.
-    fn position(self, binding: Binding) -> usize
-        requires { ⌜ self .count ≤ 32 ⌝ }
-        ensures { λ r. ⌜ r ≡ position binding (held self) ⌝ }
-    {
-        let mut i: usize = 0;
-        while i < self.count {
-            if binding.eq(self.entries[i]) {
-                return i;
-            }
-            i += 1;
-        }
-        i
-    }
-
-    // The table with one entry more.
-    fn push(mut self, binding: Binding) -> Self
-        requires { ⌜ self .count < 32 ⌝ }
-        ensures { λ r. ⌜ r ≡ placed self (held self ++ (binding ∷ [])) ⌝ }
-    {
-        self.entries[self.count] = binding;
-        self.count += 1;
-        self
-    }
-
-    // The table without the entry at a place: those behind it move down by one, and the place that is freed is unused.
-    fn remove(mut self, index: usize) -> Self
-        requires { ⌜ (index < self .count) × (self .count ≤ 32) ⌝ }
-        ensures { λ r. ⌜ r ≡ placed self (take index (held self) ++ drop (index + 1) (held self)) ⌝ }
-    {
-        let last = self.count - 1;
-        let mut i = index;
-        while i < last {
-            self.entries[i] = self.entries[i + 1];
-            i += 1;
-        }
-        self.entries[last] = Binding::group(0, 0, GroupAddress(0));
-        self.count = last;
-        self
-    }
 }
 
 // What a bind or an unbind came to (for the Rust's `Result<(), BindingError>`), or why it was refused.
@@ -86,59 +41,67 @@ pub struct Linked {
     pub status: LinkStatus,
 }
 
-// Create a binding link (2.2.4.3.1). An entry already held is success, in a full table too.
-pub fn create_binding_link(table: BindingTable, binding: Binding) -> Linked
+// Create a binding link (2.2.4.3.1). An entry already held is success, in a full table too. The search stands here, and the answer is
+// made in one place, since a table is copied for each function that it is handed to and for each way out.
+pub fn create_binding_link(mut table: BindingTable, binding: Binding) -> Linked
     ensures { λ r. ⌜ Leaves (createBindingLink table binding) table (linkSays (r .status)) (r .table) ⌝ }
 {
     let count = table.count;
     let limit = table.limit;
-    if !good_sizes(count, limit) {
-        return Linked {
-            table,
-            status: LinkStatus::Refused(Refusal::BadTables),
-        };
-    }
-    let index = table.position(binding);
-    if index < count {
-        return Linked {
-            table,
-            status: LinkStatus::Success,
-        };
-    }
-    if count == limit {
-        return Linked {
-            table,
-            status: LinkStatus::TableFull,
-        };
-    }
-    Linked {
-        table: table.push(binding),
-        status: LinkStatus::Success,
-    }
+    let status = if good_sizes(count, limit) {
+        let mut i: usize = 0;
+        while i < count {
+            if binding.eq(table.entries[i]) {
+                break;
+            }
+            i += 1;
+        }
+        if i < count {
+            LinkStatus::Success
+        } else if count == limit {
+            LinkStatus::TableFull
+        } else {
+            table.entries[count] = binding;
+            table.count = count + 1;
+            LinkStatus::Success
+        }
+    } else {
+        LinkStatus::Refused(Refusal::BadTables)
+    };
+    Linked { table, status }
 }
 
-// Remove a binding link (2.2.4.3.3). The first equal entry goes, and the rest keep their order.
-pub fn remove_binding_link(table: BindingTable, binding: Binding) -> Linked
+// Remove a binding link (2.2.4.3.3), in the same form. The first equal entry goes: those behind it move down by one, so that they keep
+// their order, and the place that is freed is unused.
+pub fn remove_binding_link(mut table: BindingTable, binding: Binding) -> Linked
     ensures { λ r. ⌜ Leaves (removeBindingLink table binding) table (linkSays (r .status)) (r .table) ⌝ }
 {
     let count = table.count;
-    if !good_sizes(count, table.limit) {
-        return Linked {
-            table,
-            status: LinkStatus::Refused(Refusal::BadTables),
-        };
-    }
-    let index = table.position(binding);
-    if index == count {
-        return Linked {
-            table,
-            status: LinkStatus::InvalidBinding,
-        };
-    }
-    Linked {
-        table: table.remove(index),
-        status: LinkStatus::Success,
-    }
+    let status = if good_sizes(count, table.limit) {
+        let mut index: usize = 0;
+        while index < count {
+            if binding.eq(table.entries[index]) {
+                break;
+            }
+            index += 1;
+        }
+        if index < count {
+            let last = count - 1;
+            let mut i = index;
+            while i < last {
+                table.entries[i] = table.entries[i + 1];
+                i += 1;
+            }
+            table.entries[last] = Binding::group(0, 0, GroupAddress(0));
+            table.count = last;
+            LinkStatus::Success
+        } else {
+            LinkStatus::InvalidBinding
+        }
+    } else {
+        LinkStatus::Refused(Refusal::BadTables)
+    };
+    Linked { table, status }
 }
 
 // Whether a count is within its limit, and the limit within the places (refusal 1).
