@@ -4,7 +4,7 @@ use mathlib.Core.Path.{_≡_, refl, sym, _∙_}
 use mathlib.Core.Bool.{true}
 use mathlib.Core.List.{List, [], _∷_}
 use lib.ListN.{length}
-use Rattle.zigbee_types.specs.Outcome.{Outcome, andThen, mapped, Wrote}
+use Rattle.zigbee_types.specs.Outcome.{Outcome, answer, andThen, mapped, Wrote}
 use Rattle.zigbee_types.specs.Refusals.{refusalNumber}
 use Rattle.zigbee_types.specs.Statuses.{SUCCESS}
 use Rattle.zigbee_types.specs.declared.IeeeAddress.{IeeeAddress}
@@ -38,6 +38,20 @@ use Rattle.zdo_dispatcher.proofs.Told.{dispatched-refused}
 
 -- ---- a bind or an unbind request
 
+-- one was read
+pub was-read : (payload : List ℕ) {r : BindReqRead} {q : BindReq} → bindReqSays r ≡ bindReqIn payload → r ≡ bind.Request q → (p : BindReq) × (bindReqIn payload ≡ answer p)
+unfolding bindReqSays
+was-read payload {r} {q} said is = (q, rw (← said, is))
+
+-- too short a buffer
+pub step-full :
+    (payload : List ℕ) (l : Link) (d : DeviceDescriptorConfig) (long : IeeeAddress) (cluster : ℕ) (out : List ℕ)
+    → (q : BindReq) × (bindReqIn payload ≡ answer q)
+    → length out < 2
+    → Stepped (linkWith l d long (asking cluster payload out)) cluster (step.Told (response.Refused ShortBuffer)) out out
+unfolding AtStep linkWith asking andThen onLink
+step-full payload l d long cluster out (q, is) short = record { at = λ t full good. rw is (link-full l (sourceStatus d long q) t q cluster out short) }
+
 module _ (payload : List ℕ) (l : Link) (d : DeviceDescriptorConfig) (long : IeeeAddress) (cluster : ℕ) (out : List ℕ) {r : BindReqRead} (said : bindReqSays r ≡ bindReqIn payload) where
   -- none was read
   pub step-unread : {why : Refusal} → r ≡ bind.Refused why → Stepped (linkWith l d long (asking cluster payload out)) cluster (step.Told (response.Refused why)) out out
@@ -46,11 +60,6 @@ module _ (payload : List ℕ) (l : Link) (d : DeviceDescriptorConfig) (long : Ie
       record { at = λ t full good. rw (link-unread payload l d long t cluster out said is) (dispatched-refused why t out (refusalNumber why) refl) }
 
   module _ {q : BindReq} (is : r ≡ bind.Request q) where
-    -- too short a buffer
-    pub step-full : length out < 2 → Stepped (linkWith l d long (asking cluster payload out)) cluster (step.Told (response.Refused ShortBuffer)) out out
-    unfolding AtStep linkWith asking
-    step-full short = record { at = λ t full good. rw (link-read payload l d long t cluster out said is) (link-full l (sourceStatus d long q) t q cluster out short) }
-
     module _ {source code : ℕ} (ours : source ≡ sourceStatus d long q) (coded : code ≡ source) where
       -- the source is not ours
       pub step-denied :

@@ -1,11 +1,11 @@
 -- `link_step` meets its contract, at each of its ways out. Assumes nothing.
 use native.Mathlib.Omega.{arith}
 use borrow.Author.Needs.{needs}
-use Rattle.zdo_dispatcher.proofs.Steps.{step-unread, step-full, step-denied, step-asks}
+use Rattle.zdo_dispatcher.proofs.Steps.{was-read, step-unread, step-full, step-denied, step-asks}
 use Rattle.zdo_dispatcher.proofs.dispatcher.link_step.Statement.{statement}
 use Rattle.zdo_dispatcher.proofs.dispatcher.link_step.Tie as tie
 
-ruleset laws = (needs, step-unread, step-full, step-denied, step-asks)
+ruleset laws = (needs, was-read, step-unread, step-denied, step-asks)
 
 pub link-step-spec : {M : Type 1} → statement M
 link-step-spec =
@@ -13,7 +13,7 @@ link-step-spec =
     (tie.spec
     (λ c κs. search laws)  -- parse-bind-req-requires
     (λ c. search laws)  -- enum-known-read
-    (λ c. search laws)  -- returns
+    (λ c. step-full _ _ _ _ _ _ (search laws) (omega arith))  -- returns
     (λ c κs. search laws)  -- source-status-requires
     (λ c κs. search laws)  -- code-requires
     (λ c κs. search laws)  -- bind-rsp-requires
