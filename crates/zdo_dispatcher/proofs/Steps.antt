@@ -39,18 +39,21 @@ use Rattle.zdo_dispatcher.proofs.Told.{dispatched-refused}
 -- ---- a bind or an unbind request
 
 -- one was read
-pub was-read : (payload : List ℕ) {r : BindReqRead} {q : BindReq} → bindReqSays r ≡ bindReqIn payload → r ≡ bind.Request q → (p : BindReq) × (bindReqIn payload ≡ answer p)
+pub data Read (payload : List ℕ) : Type 0 where
+  read : (q : BindReq) → bindReqIn payload ≡ answer q → Read payload
+
+pub was-read : (payload : List ℕ) {r : BindReqRead} {q : BindReq} → bindReqSays r ≡ bindReqIn payload → r ≡ bind.Request q → Read payload
 unfolding bindReqSays
-was-read payload {r} {q} said is = (q, rw (← said, is))
+was-read payload {r} {q} said is = read q (rw (← said, is))
 
 -- too short a buffer
 pub step-full :
     (payload : List ℕ) (l : Link) (d : DeviceDescriptorConfig) (long : IeeeAddress) (cluster : ℕ) (out : List ℕ)
-    → (q : BindReq) × (bindReqIn payload ≡ answer q)
+    → Read payload
     → length out < 2
     → Stepped (linkWith l d long (asking cluster payload out)) cluster (step.Told (response.Refused ShortBuffer)) out out
 unfolding AtStep linkWith asking andThen onLink
-step-full payload l d long cluster out (q, is) short = record { at = λ t full good. rw is (link-full l (sourceStatus d long q) t q cluster out short) }
+step-full payload l d long cluster out (read q is) short = record { at = λ t full good. rw is (link-full l (sourceStatus d long q) t q cluster out short) }
 
 module _ (payload : List ℕ) (l : Link) (d : DeviceDescriptorConfig) (long : IeeeAddress) (cluster : ℕ) (out : List ℕ) {r : BindReqRead} (said : bindReqSays r ≡ bindReqIn payload) where
   -- none was read
