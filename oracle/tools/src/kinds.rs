@@ -1,5 +1,6 @@
 //! The kinds of answers, by which they are counted, and what decides answers of a kind.
 
+use crate::cells::reachable;
 use crate::functions::{Decides, Function};
 use crate::words::{bytes, decimal, pieces};
 
@@ -35,53 +36,8 @@ pub fn kind(question: &str, answer: &str) -> &'static str {
         "R" => Some(why_refused(&asked)),
         _ => told_apart(&asked, &answered),
     };
-    kind.filter(|kind| reachable(asked[0]).contains(kind))
+    kind.filter(|kind| reachable(asked[0], kind))
         .unwrap_or(NO_ANSWER)
-}
-
-/// All kinds that the answers to questions about a function can have.
-pub fn reachable(name: &str) -> &'static [&'static str] {
-    match name {
-        "parse_bind_req" => &["group", "device", "refused, mode", REFUSED],
-        "NodePowerDescriptor::try_read" => {
-            &["answered", "refused, absent", "refused, unnamed", REFUSED]
-        }
-        "parse_mgmt_leave_req" => &["address", "no address", REFUSED],
-        "parse_node_desc_rsp" => &["mask", "short", "other status", REFUSED],
-        "stack_revision" => &["mask", "no mask"],
-        "addr_rsp" => &["single", "extended", REFUSED],
-        "match_desc_rsp" => &["up to 255", "above 255", REFUSED],
-        "simple_desc_rsp" => &["described", "not active", REFUSED],
-        "matching_endpoints" => &["all", "full", "none", "no room", REFUSED],
-        "endpoint" | "supports_endpoint" => &["known", "unknown"],
-        "Binding::eq" | "Binding::matches" | "NodePowerDescriptor::supports" => &["yes", "no"],
-        "NodeDescriptor::logical_type" | "NodePowerDescriptor::accessors" => &["named", "reserved"],
-        "links" => &[
-            "no step",
-            "bind 00 added",
-            "bind 00 held",
-            "bind 00 held, full",
-            "bind 8C",
-            "unbind 00",
-            "unbind 00 of two",
-            "unbind 88",
-        ],
-        _ if never_refuses(name) => &["answered"],
-        _ => &["answered", REFUSED],
-    }
-}
-
-/// Is it a function whose answers are all of one kind?
-fn never_refuses(name: &str) -> bool {
-    let method = name.rsplit("::").next().unwrap_or(name);
-    match name {
-        "NodeDescriptor::accessors" | "ServerMask::get_stack_compliance_revision" => true,
-        "constants" | "leave_status" => true,
-        _ => matches!(
-            method,
-            "default" | "is_set" | "bits" | "bitmap" | "code" | "group" | "device"
-        ),
-    }
 }
 
 /// The kind of an answer that is no refusal.

@@ -17,23 +17,18 @@ pub const READERS: [&str; 7] = [
     "StatusReply::try_read",
 ];
 
-/// The kinds of answers that a reader has; the last is a refusal.
-pub fn kinds(reader: &str) -> &'static [&'static str] {
-    match reader {
-        "ListReply::try_read" => &["list", "refused"],
-        "MatchReply::try_read" => &["list", "failed", "refused"],
-        "AddrReply::try_read" => &["extended", "single", "refused"],
-        "StatusReply::try_read" => &["status", "refused"],
-        _ => &["descriptor", "no descriptor", "refused"],
-    }
-}
-
 /// The kind of an answer of the model.
 pub fn kind(reader: &str, answer: &str) -> &'static str {
-    let kinds = kinds(reader);
+    let (given, not_given) = match reader {
+        "ListReply::try_read" => ("list", "list"),
+        "MatchReply::try_read" => ("list", "failed"),
+        "AddrReply::try_read" => ("extended", "single"),
+        "StatusReply::try_read" => ("status", "status"),
+        _ => ("descriptor", "no descriptor"),
+    };
     match answer {
-        "R" => kinds[kinds.len() - 1],
-        _ if answer.ends_with(" -") => kinds[1],
-        _ => kinds[0],
+        "R" => "refused",
+        _ if answer.ends_with(" -") => not_given,
+        _ => given,
     }
 }

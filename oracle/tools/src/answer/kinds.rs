@@ -1,37 +1,8 @@
-//! The kinds of answers, by which a session is counted.
+//! The kinds of answers, by which a session is counted. A row is one of the ten clusters, another cluster, or another shape; a kind
+//! begins with the status of the reply, and `R` is a refusal (cells.txt).
 
 use super::device::LIMIT;
-
-/// A row of the table for each of the ten clusters, for other clusters and for lines of another shape, with the kinds of answers that
-/// document 01's device can give there. A kind begins with the status of the reply; `R` is a refusal.
-pub const ROWS: [(&str, &[&str]); 12] = [
-    ("0000 NWK_addr_req", ADDRESS),
-    ("0001 IEEE_addr_req", ADDRESS),
-    ("0002 Node_Desc_req", &["00", "80", "R3"]),
-    ("0003 Power_Desc_req", &["00", "80", "R3"]),
-    ("0004 Simple_Desc_req", &["00", "80", "83", "R3"]),
-    ("0005 Active_EP_req", &["00", "80", "R3"]),
-    ("0006 Match_Desc_req", MATCH),
-    ("0021 Bind_req", BIND),
-    ("0022 Unbind_req", UNBIND),
-    ("0034 Mgmt_Leave_req", &["leave", "R3"]),
-    (OTHER_CLUSTER, &["R2"]),
-    (OTHER_SHAPE, &["?"]),
-];
-
-const ADDRESS: &[&str] = &["00 single", "00 extended", "80", "81", "R3"];
-const MATCH: &[&str] = &["00 of 0", "00 of 1", "00 of 2", "80", "R3"];
-const BIND: &[&str] = &[
-    "00 added",
-    "00 held",
-    "00 held, full",
-    "82",
-    "84",
-    "8C",
-    "R3",
-    "R3 mode",
-];
-const UNBIND: &[&str] = &["00", "82", "84", "88", "R3", "R3 mode"];
+use crate::cells::row_with;
 
 const OTHER_CLUSTER: &str = "another cluster";
 const OTHER_SHAPE: &str = "another shape";
@@ -41,10 +12,7 @@ pub fn row(request: &Option<(u16, Vec<u8>)>) -> &'static str {
     let Some((cluster, _)) = request else {
         return OTHER_SHAPE;
     };
-    let digits = format!("{cluster:04X} ");
-    ROWS.into_iter()
-        .find(|(title, _)| title.starts_with(&digits))
-        .map_or(OTHER_CLUSTER, |(title, _)| title)
+    row_with("answer", &format!("{cluster:04X} ")).unwrap_or(OTHER_CLUSTER)
 }
 
 /// The entries that are held by what was printed: each bind of SUCCESS that is not held adds one, each unbind of SUCCESS removes it.

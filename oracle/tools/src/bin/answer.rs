@@ -1,20 +1,18 @@
 //! The model of the program `answer`, and what holds the program against it:
-//! `answer model`, what the program shall write for standard input; `answer session SEED LINES`, a fresh input; `answer compare INPUT
-//! EXPECTED ACTUAL`, how many answers of each cluster and kind there are and how many differ; `answer cases FILE`, the model against
-//! answers that were derived by hand; `answer recorded FILE`, the input of the project's test, which begins with those cases; `answer
-//! ends FOLDER`, short inputs that end in different ways, a file for each.
+//! `answer model`, what the program shall write for standard input; `answer session SEED LINES`, a fresh input; `answer cases
+//! FILE`, the model against answers that were derived by hand; `answer recorded FILE`, the input of the project's test, which begins with
+//! those cases; `answer ends FOLDER`, short inputs that end in different ways, a file for each.
 
 use std::io::{Read, Write, stdin, stdout};
 use std::path::Path;
 use std::process::ExitCode;
 
 use tools::answer::cases::{Run, runs};
-use tools::answer::comparison::compare;
 use tools::answer::ends::ends;
 use tools::answer::model::output;
 use tools::answer::sessions::{Session, session};
 
-const USAGE: &str = "model, session SEED LINES, compare INPUT EXPECTED ACTUAL, cases FILE, recorded FILE, or ends FOLDER";
+const USAGE: &str = "model, session SEED LINES, cases FILE, recorded FILE, or ends FOLDER";
 
 /// The random part of the recorded input: its seed, which is one that reaches all kinds of answers, and how many lines it has.
 const RECORDED: (u64, usize) = (73, 300);
@@ -29,7 +27,6 @@ fn main() -> ExitCode {
     let done = match words[..] {
         ["model"] => model(),
         ["session", seed, lines] => fresh(seed, lines),
-        ["compare", input, expected, actual] => compared([input, expected, actual]),
         ["cases", file] => cases(file),
         ["recorded", file] => recorded(file),
         ["ends", folder] => write_ends(folder),
@@ -75,10 +72,6 @@ fn fresh(seed: &str, lines: &str) -> Result<(), String> {
     let seed = seed.parse().map_err(|_| format!("{seed}: no number"))?;
     let lines = lines.parse().map_err(|_| format!("{lines}: no number"))?;
     print(&session(seed, lines))
-}
-
-fn compared([input, expected, actual]: [&str; 3]) -> Result<(), String> {
-    compare(&read(input)?, &read(expected)?, &read(actual)?)
 }
 
 /// Holds the model against a list of cases.

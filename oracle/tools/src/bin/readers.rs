@@ -1,8 +1,7 @@
 //! The readers of replies that document 01 adds, asked about what the Rust wrote:
 //! `readers questions SEED COUNT WRITTEN REPLIES`, COUNT questions, made from questions to the Rust's writers and the oracle's
 //! answers to them; `readers sample` with the same words, the first of them of each writer, kind of copy and kind of answer;
-//! `readers answers`, the model's answers to questions on standard input; `readers compare QUESTIONS MODEL REPLAY`,
-//! how many answers of each reader and kind there are and how many differ; `readers writers`, the names of the writers.
+//! `readers answers`, the model's answers to questions on standard input; `readers writers`, the names of the writers.
 
 use std::collections::{HashMap, HashSet};
 use std::io::{BufRead, BufWriter, Write, stdin, stdout};
@@ -11,14 +10,8 @@ use std::process::ExitCode;
 use tools::questions::dice::Dice;
 use tools::readers::copies::{COPIES, copy};
 use tools::readers::given::{Given, WRITERS, given, question, reply_of};
+use tools::readers::kind;
 use tools::readers::model::{answer, read};
-use tools::readers::{READERS, kind, kinds};
-
-/// With so many questions to a reader, each kind of answer must have been reached.
-const ENOUGH: usize = 1000;
-
-/// So many differences are printed.
-const SHOWN: usize = 10;
 
 fn main() -> ExitCode {
     let words: Vec<String> = std::env::args().skip(1).collect();
@@ -31,15 +24,11 @@ fn main() -> ExitCode {
             questions([seed, count, written, replies], true)
         }
         ["answers"] => answers(),
-        ["compare", questions, model, replay] => compare(questions, model, replay),
         ["writers"] => {
             println!("{}", WRITERS.join(" "));
             Ok(())
         }
-        _ => Err(
-            "questions or sample SEED COUNT WRITTEN REPLIES, answers, compare QUESTIONS MODEL REPLAY, or writers"
-                .to_string(),
-        ),
+        _ => Err("questions or sample SEED COUNT WRITTEN REPLIES, answers, or writers".to_string()),
     };
     match done {
         Ok(()) => ExitCode::SUCCESS,
@@ -156,75 +145,4 @@ fn answers() -> Result<(), String> {
         writeln!(out, "{answer}").map_err(|error| error.to_string())?;
     }
     out.flush().map_err(|error| error.to_string())
-}
-
-/// The questions of one reader and kind of answer, each once; how many there are; and how many answers differ.
-#[derive(Default)]
-struct Count<'a> {
-    different: HashSet<&'a str>,
-    questions: usize,
-    differences: usize,
-}
-
-/// Prints how many answers there are and how many differ. Fails if any do, or if a kind of answer is missing.
-fn compare(questions: &str, model: &str, replay: &str) -> Result<(), String> {
-    let [questions, model, replay] = [lines(questions)?, lines(model)?, lines(replay)?];
-    if questions.len() != model.len() || questions.len() != replay.len() {
-        return Err("not as many answers as questions".to_string());
-    }
-    let mut counts: HashMap<(&str, &'static str), Count> = HashMap::new();
-    let mut differences = 0;
-    for ((question, model), replay) in questions.iter().zip(&model).zip(&replay) {
-        let reader = question.split(' ').next().unwrap_or("");
-        if !READERS.contains(&reader) || model == "?" {
-            return Err(format!("no question: {question}"));
-        }
-        let count = counts.entry((reader, kind(reader, model))).or_default();
-        count.different.insert(question);
-        count.questions += 1;
-        if model != replay {
-            count.differences += 1;
-            differences += 1;
-            if differences <= SHOWN {
-                println!("question {question}\n  model  {model}\n  replay {replay}");
-            }
-        }
-    }
-    let missing = print_table(&counts);
-    println!("{} questions, {differences} differences", questions.len());
-    match (differences, missing) {
-        (0, false) if !questions.is_empty() => Ok(()),
-        _ => Err("answers differ, or some are missing".to_string()),
-    }
-}
-
-/// Prints a row for each reader and kind. True if a kind is missing.
-fn print_table(counts: &HashMap<(&str, &'static str), Count>) -> bool {
-    let mut missing = false;
-    println!(
-        "  {:<26}{:<16}{:>10}{:>10}{:>13}",
-        "reader", "answer", "questions", "different", "differences"
-    );
-    for reader in READERS {
-        let of = |kind: &'static str| counts.get(&(reader, kind));
-        let asked: usize = kinds(reader)
-            .iter()
-            .map(|kind| of(kind).map_or(0, |count| count.questions))
-            .sum();
-        for kind in kinds(reader) {
-            match of(kind) {
-                Some(count) => println!(
-                    "  {reader:<26}{kind:<16}{:>10}{:>10}{:>13}",
-                    count.questions,
-                    count.different.len(),
-                    count.differences
-                ),
-                None => {
-                    println!("not reached: {reader} {kind}");
-                    missing |= asked == 0 || asked >= ENOUGH;
-                }
-            }
-        }
-    }
-    missing
 }
