@@ -79,7 +79,7 @@ linkNumbers call t b =
 
 -- A device binding is bound in a table of zeros, with room and without, and in an empty table. The group binding of zeros is bound
 -- in an empty table, and refused with a limit of 33. It is unbound where it is held, and where nothing is, and refused with a count
--- above the limit.
+-- above the limit: 2 and 1, and 1 and 0.
 unfoldable pub Links : Case
 Links =
     record {
@@ -92,6 +92,7 @@ Links =
           ∷ linkNumbers removeBindingLink (counting 1 1) zeroBinding
           ∷ linkNumbers removeBindingLink (emptyTable 1) zeroBinding
           ∷ linkNumbers removeBindingLink (counting 1 2) zeroBinding
+          ∷ linkNumbers removeBindingLink (counting 0 1) zeroBinding
           ∷ [];
       expected =
           answer (0x00 ∷ 2 ∷ 2 ∷ 0 ∷ 0 ∷ 0 ∷ 0 ∷ 0 ∷ 1 ∷ [])
@@ -101,6 +102,7 @@ Links =
           ∷ refusal 1
           ∷ answer (0x00 ∷ 0 ∷ 1 ∷ 0 ∷ 0 ∷ 0 ∷ 0 ∷ 0 ∷ 1 ∷ [])
           ∷ answer (0x88 ∷ 0 ∷ 1 ∷ 0 ∷ 0 ∷ 0 ∷ 0 ∷ 0 ∷ 1 ∷ [])
+          ∷ refusal 1
           ∷ refusal 1
           ∷ [];
     }

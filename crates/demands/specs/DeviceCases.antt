@@ -244,7 +244,7 @@ startingAt inputs outputs = deviceOf (endpointAt 1 inputs 0 outputs 0 ∷ []) 1
 -- a count of 33, of active, simple, matching and an endpoint's part, and one of 3; a run of 33 records in the active list; pools
 -- of 513 clusters, of inputs and of outputs, and of 512; a record that starts at the end of its pool, and past it, of inputs and
 -- of outputs; an input past its pool; matching over a run of 32 records, and of 33; a pool that is too short before places that
--- are; places that end with the payload, and one past it, of inputs and of outputs
+-- are; places that end with the payload, and one past it, of inputs and of outputs; a record that starts past an empty pool
 unfoldable pub TableChecks : Case
 TableChecks =
     record {
@@ -269,6 +269,7 @@ TableChecks =
           ∷ matchingEndpoints ourPools ourDevice (standing 0 2) (0x02 ∷ 0x04 ∷ [])
           ∷ matchingEndpoints ourPools ourDevice (standing 1 2) (0x02 ∷ 0x04 ∷ [])
           ∷ matchingEndpoints ourPools ourDevice (standing 0 3) (0x02 ∷ 0x04 ∷ [])
+          ∷ simpleDescRsp 7 (shortOf 0x1234) (pools [] []) (startingAt 1 0) 1
           ∷ [];
       expected =
           refusal 1
@@ -291,6 +292,7 @@ TableChecks =
           ∷ answer (1 ∷ [])
           ∷ refusal 3
           ∷ refusal 3
+          ∷ refusal 1
           ∷ [];
     }
 
