@@ -122,23 +122,23 @@ fn print_unreached(cells: &[&Cell]) {
     }
 }
 
-/// Prints the cells with too few questions. True if there are any.
+/// Prints how many cells can be reached, the one with the fewest questions, and those with too few. True if there are any of these.
 fn print_scarce(cells: &[&Cell], least: usize, tally: &Tally) -> bool {
-    let mut scarce = false;
-    for cell in cells.iter().filter(|cell| cell.unreached.is_none()) {
-        let questions = tally
-            .0
-            .get(&key(cell))
-            .map_or(0, |count| count.numbers()[0]);
-        if questions < least {
-            println!(
-                "fewer than {least} questions: {}, {}: {questions}",
-                cell.row, cell.kind
-            );
-            scarce = true;
-        }
+    let reachable = cells.iter().filter(|cell| cell.unreached.is_none());
+    let asked = |cell: &Cell| tally.0.get(&key(cell)).map_or(0, |c| c.numbers()[0]);
+    let mut counted: Vec<(usize, &Cell)> = reachable.map(|cell| (asked(cell), *cell)).collect();
+    counted.sort_by_key(|(questions, _)| *questions);
+    if let Some((fewest, cell)) = counted.first() {
+        let (row, kind, count) = (cell.row, cell.kind, counted.len());
+        println!("{count} cells with questions, the fewest: {row}, {kind}: {fewest}");
     }
-    scarce
+    let scarce = counted
+        .iter()
+        .take_while(|(questions, _)| *questions < least);
+    for (questions, Cell { row, kind, .. }) in scarce.clone() {
+        println!("fewer than {least} questions: {row}, {kind}: {questions}");
+    }
+    scarce.count() > 0
 }
 
 /// Prints the cells that have questions and are not among those that can be reached. True if there are any.
