@@ -21,11 +21,9 @@ pub static CELLS: LazyLock<Vec<Cell>> = LazyLock::new(|| {
         .collect()
 });
 
-/// Those that questions reach: row and kind.
-static REACHABLE: LazyLock<HashSet<(&str, &str)>> = LazyLock::new(|| {
-    let cells = CELLS.iter().filter(|cell| cell.unreached.is_none());
-    cells.map(|cell| (cell.row, cell.kind)).collect()
-});
+/// Row and kind of each.
+static LISTED: LazyLock<HashSet<(&str, &str)>> =
+    LazyLock::new(|| CELLS.iter().map(|cell| (cell.row, cell.kind)).collect());
 
 fn cell(line: &'static str) -> Cell {
     let columns: Vec<&str> = line.splitn(4, '|').map(str::trim).collect();
@@ -40,9 +38,9 @@ fn cell(line: &'static str) -> Cell {
     }
 }
 
-/// Can an answer in this row be of this kind?
-pub fn reachable(row: &str, kind: &str) -> bool {
-    REACHABLE.contains(&(row, kind))
+/// Has this row this kind of answer?
+pub fn listed(row: &str, kind: &str) -> bool {
+    LISTED.contains(&(row, kind))
 }
 
 /// The row of a comparison that begins so.

@@ -1,6 +1,6 @@
 //! The kinds of answers, by which they are counted, and what decides answers of a kind.
 
-use crate::cells::reachable;
+use crate::cells::listed;
 use crate::functions::{Decides, Function};
 use crate::words::{bytes, decimal, pieces};
 
@@ -36,7 +36,7 @@ pub fn kind(question: &str, answer: &str) -> &'static str {
         "R" => Some(why_refused(&asked)),
         _ => told_apart(&asked, &answered),
     };
-    kind.filter(|kind| reachable(asked[0], kind))
+    kind.filter(|kind| listed(asked[0], kind))
         .unwrap_or(NO_ANSWER)
 }
 

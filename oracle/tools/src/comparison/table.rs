@@ -130,7 +130,7 @@ fn print_scarce(cells: &[&Cell], least: usize, tally: &Tally) -> bool {
     counted.sort_by_key(|(questions, _)| *questions);
     if let Some((fewest, cell)) = counted.first() {
         let (row, kind, count) = (cell.row, cell.kind, counted.len());
-        println!("{count} cells with questions, the fewest: {row}, {kind}: {fewest}");
+        println!("{count} cells to be reached; the fewest questions: {row}, {kind}: {fewest}");
     }
     let scarce = counted
         .iter()
@@ -150,7 +150,7 @@ fn print_strange(cells: &[&Cell], tally: &Tally) -> bool {
             .any(|cell| cell.unreached.is_none() && cell.row == row && cell.kind == kind);
         if !known {
             println!(
-                "no cell of cells.txt: {row}, {kind}: {}",
+                "no cell that questions reach: {row}, {kind}: {}",
                 count.numbers()[0]
             );
             strange = true;
