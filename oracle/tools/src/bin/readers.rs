@@ -8,7 +8,7 @@ use std::io::{BufRead, BufWriter, Write, stdin, stdout};
 use std::process::ExitCode;
 
 use tools::questions::dice::Dice;
-use tools::readers::copies::{COPIES, copy};
+use tools::readers::copies::{COPIES, copy, far_behind};
 use tools::readers::given::{Given, WRITERS, given, question, reply_of};
 use tools::readers::kind;
 use tools::readers::model::{answer, read};
@@ -72,6 +72,7 @@ fn make(words: [&str; 4]) -> Result<Vec<Made>, String> {
     let seed = seed.parse().map_err(|_| format!("{seed}: no number"))?;
     let count = count.parse().map_err(|_| format!("{count}: no number"))?;
     let mut dice = Dice::new(seed, "readers");
+    let mut far = Dice::new(seed, "far behind");
     let mut turns: HashMap<String, usize> = HashMap::new();
     let mut made = Vec::new();
     for (asked, told) in lines(written)?.into_iter().zip(lines(replies)?) {
@@ -84,8 +85,12 @@ fn make(words: [&str; 4]) -> Result<Vec<Made>, String> {
         let turn = turns.entry(writer.clone()).or_default();
         let kind = COPIES[*turn % COPIES.len()];
         let reader = given.readers[*turn % given.readers.len()];
+        let round = *turn / COPIES.len();
         *turn += 1;
-        let (reader, bytes) = copy(kind, reader, &reply, &mut dice);
+        let (reader, mut bytes) = copy(kind, reader, &reply, &mut dice);
+        if kind == "bytes behind it" && round % 8 == 7 {
+            far_behind(&mut far, &mut bytes);
+        }
         made.push(Made {
             writer,
             copy: kind,

@@ -59,6 +59,12 @@ fn behind(dice: &mut Dice, reply: &mut Vec<u8>) {
     reply.extend(dice.bytes(count));
 }
 
+/// Puts up to 700 there: those behind an address reply can be more than 255 short addresses.
+pub fn far_behind(dice: &mut Dice, reply: &mut Vec<u8>) {
+    let count = dice.below(701);
+    reply.extend(dice.bytes(count));
+}
+
 /// Puts some there half of the time.
 fn sometimes_behind(dice: &mut Dice, reply: &mut Vec<u8>) {
     if dice.one_in(2) {
