@@ -8,7 +8,7 @@ use lib.ListN.{length, set}
 use borrow.Author.Tests.{lt-ltb, le-ltb, eq-eqb, ne-eqb}
 use Rattle.zigbee_types.specs.Outcome.{Outcome, answer, mapped}
 use Rattle.zigbee_types.specs.declared.Refusal.the-variants.{BadTables}
-use Rattle.aps_binding_table.specs.Held.{Step, holds, position, bound, boundAs, unbound, unboundAs}
+use Rattle.aps_binding_table.specs.Held.{Step, holds, bound, boundAs, unbound, unboundAs}
 use Rattle.aps_binding_table.specs.Table.{goodSizes, goodTable, held, placed, onGood, createBindingLink, removeBindingLink, tableLeft, Leaves}
 use Rattle.aps_binding_table.specs.Answers.{linkSays}
 use Rattle.aps_binding.specs.declared.binding.Binding.{Binding}
@@ -17,7 +17,7 @@ use Rattle.aps_binding_table.specs.declared.binding.LinkStatus.the-varia
 use Rattle.aps_binding_table.proofs.Good.{Good, good-table, count-inside, held-length, on-good}
 use Rattle.aps_binding_table.proofs.Places.{held-stays, added-stands}
 use Rattle.aps_binding_table.proofs.Shift.{cut}
-use Rattle.aps_binding_table.proofs.Search.{Passed, passed-end, holds-position, without-position}
+use Rattle.aps_binding_table.proofs.Search.{position, Passed, passed-end, holds-position, without-position}
 
 -- ---- refusal 1
 

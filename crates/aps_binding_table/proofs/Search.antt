@@ -13,7 +13,7 @@ use borrow.Author.Tests.{lt-ltb}
 use Rattle.zigbee_types.specs.Lists.{any}
 use Rattle.zigbee_types.proofs.Elements.{front-next}
 use Rattle.aps_binding.specs.Entry.{same}
-use Rattle.aps_binding_table.specs.Held.{holds, position, without}
+use Rattle.aps_binding_table.specs.Held.{holds, without}
 use Rattle.aps_binding_table.specs.Table.{held}
 use Rattle.aps_binding.specs.declared.binding.Binding.{Binding}
 use Rattle.aps_binding_table.specs.declared.binding.BindingTable.{BindingTable}
@@ -21,6 +21,11 @@ use Rattle.aps_binding_table.proofs.Good.{Good, held-length}
 use Rattle.aps_binding_table.proofs.Shift.{cut}
 
 -- ---- the loop
+
+-- how many entries stand before the first that is the same; all, where none is
+unfoldable pub position : Binding → List Binding → ℕ
+position b [] = 0
+position b (x ∷ xs) = cond (same b x) 0 (position b xs + 1)
 
 -- the first i entries held were passed by: none of them is the same
 pub record Passed (b : Binding) (t : BindingTable) (i : ℕ) : Type 0 where

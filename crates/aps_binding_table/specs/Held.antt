@@ -1,5 +1,5 @@
 -- Bind and unbind, on the list of the entries that are held (document 01, "Binding and dispatch"; 2.2.4.3.1, 2.2.4.3.3).
-use Prim.Native.Nat.{ℕ, _+_}
+use Prim.Native.Nat.{ℕ}
 use mathlib.Core.Bool.{Bool, true, false, cond}
 use mathlib.Core.List.{List, [], _∷_, _++_}
 use lib.Dec.{eqb}
@@ -12,11 +12,6 @@ use Rattle.aps_binding.specs.declared.binding.Binding.{Binding}
 -- is an entry held?
 unfoldable pub holds : Binding → List Binding → Bool
 holds b xs = any (same b) xs
-
--- how many entries stand before the first that is the same; all, where none is
-unfoldable pub position : Binding → List Binding → ℕ
-position b [] = 0
-position b (x ∷ xs) = cond (same b x) 0 (position b xs + 1)
 
 -- the list without the first entry that is the same
 unfoldable pub without : Binding → List Binding → List Binding

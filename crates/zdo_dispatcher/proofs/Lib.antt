@@ -2,4 +2,4 @@ pub mod OneDispatched
 pub mod Told
 pub mod Links
 pub mod Requests
-pub mod Steps
+pub mod Taken

@@ -1,3 +1,3 @@
 pub mod Answers
-pub mod Steps
+pub mod Taken
 pub mod OneDispatched

@@ -41,7 +41,7 @@ ghost use Rattle.zdo_device.specs.Tables.{pools, goodDevice};
 ghost use Rattle.zdo_discovery.specs.Host.{hostWith, asking};
 ghost use Rattle.zdo_discovery.specs.Discovery.{discovered};
 ghost use Rattle.zdo_dispatcher.specs.Answers.{reply, leaving, replied, responseSays, stepOf, sourceStatus, linkAnswer, answered, Dispatched};
-ghost use Rattle.zdo_dispatcher.specs.Steps.{linkWith, answeredWith, Stepped};
+ghost use Rattle.zdo_dispatcher.specs.Taken.{linkWith, answeredWith, TakenTo};
 
 // What a request came to: a reply that was written, by its cluster and length; a leave, which is handed to the host; or why it was
 // refused.
@@ -122,38 +122,38 @@ fn link_rsp(seq: u8, status: LinkStatus, out: &mut [u8]) -> Written
 }
 
 // What a request comes to without the binding table: an answer, or an entry that is still to be bound or unbound.
-enum Step {
-    Told(Response),
+enum Taken {
+    Answered(Response),
     Asks { link: Link, request: BindReq },
 }
 
 // Takes a bind or unbind request (2.4.3.2.2, 2.4.3.2.3) as far as it goes without the table. Too short a buffer is refused here, before
 // anything is stored.
-fn link_step(
+fn take_link(
     link: Link,
     device: DeviceDescriptorConfig,
     ieee_addr: IeeeAddress,
     cluster: u16,
     payload: &[u8],
     out: &mut [u8],
-) -> Step
+) -> Taken
     requires { ⌜ cluster < 2 ^ 15 ⌝ }
-    ensures { λ r. ⌜ Stepped (linkWith link device «ieee_addr» (asking cluster (now (payload .entry)) (now (out .entry)))) cluster r (now (out .entry)) (now (out .exit)) ⌝ }
+    ensures { λ r. ⌜ TakenTo (linkWith link device «ieee_addr» (asking cluster (now (payload .entry)) (now (out .entry)))) cluster r (now (out .entry)) (now (out .exit)) ⌝ }
 {
     let read = parse_bind_req(payload);
     match read {
         BindReqRead::Request(request) => {
             if out.len() < 2 {
-                return Step::Told(Response::Refused(Refusal::ShortBuffer));
+                return Taken::Answered(Response::Refused(Refusal::ShortBuffer));
             }
             let source = source_status(device, ieee_addr, request);
             if source.code() != STATUS_SUCCESS {
                 let written = bind_rsp(request.seq, source, out);
-                return Step::Told(told(cluster, written));
+                return Taken::Answered(told(cluster, written));
             }
-            Step::Asks { link, request }
+            Taken::Asks { link, request }
         }
-        BindReqRead::Refused(why) => Step::Told(Response::Refused(why)),
+        BindReqRead::Refused(why) => Taken::Answered(Response::Refused(why)),
     }
 }
 
@@ -226,7 +226,7 @@ fn on_discovery<'a>(
 // ---- any request
 
 // Takes a request as far as it goes without the binding table. The tables were checked.
-fn first_step<'a>(
+fn take<'a>(
     device: DeviceDescriptorConfig,
     ieee_addr: IeeeAddress,
     nwk_addr: ShortAddress,
@@ -235,15 +235,15 @@ fn first_step<'a>(
     cluster: u16,
     payload: &[u8],
     out: &mut [u8],
-) -> Step
+) -> Taken
     requires { ⌜ goodDevice (pools (now inputs) (now outputs)) device ≡ true ⌝ }
-    ensures { λ r. ⌜ Stepped (answeredWith (hostWith device «ieee_addr» «nwk_addr» (pools (now (inputs .entry)) (now (outputs .entry)))) (asking cluster (now (payload .entry)) (now (out .entry)))) cluster r (now (out .entry)) (now (out .exit)) ⌝ }
+    ensures { λ r. ⌜ TakenTo (answeredWith (hostWith device «ieee_addr» «nwk_addr» (pools (now (inputs .entry)) (now (outputs .entry)))) (asking cluster (now (payload .entry)) (now (out .entry)))) cluster r (now (out .entry)) (now (out .exit)) ⌝ }
 {
     match cluster {
-        BIND_REQ => link_step(Link::Bind, device, ieee_addr, cluster, payload, out),
-        UNBIND_REQ => link_step(Link::Unbind, device, ieee_addr, cluster, payload, out),
-        MGMT_LEAVE_REQ => Step::Told(on_leave(payload)),
-        _ => Step::Told(on_discovery(
+        BIND_REQ => take_link(Link::Bind, device, ieee_addr, cluster, payload, out),
+        UNBIND_REQ => take_link(Link::Unbind, device, ieee_addr, cluster, payload, out),
+        MGMT_LEAVE_REQ => Taken::Answered(on_leave(payload)),
+        _ => Taken::Answered(on_discovery(
             device,
             ieee_addr,
             nwk_addr,
@@ -280,7 +280,7 @@ pub fn dispatch<'a>(
             response: Response::Refused(Refusal::BadTables),
         };
     }
-    let step = first_step(
+    let taken = take(
         device,
         ieee_addr,
         nwk_addr,
@@ -290,9 +290,9 @@ pub fn dispatch<'a>(
         payload,
         out,
     );
-    match step {
-        Step::Told(response) => Responded { table, response },
-        Step::Asks { link, request } => {
+    match taken {
+        Taken::Answered(response) => Responded { table, response },
+        Taken::Asks { link, request } => {
             return link_answer(link, table, request, cluster, out);
         }
     }

@@ -1,8 +1,8 @@
--- `dispatch` meets its contract: bad tables, a first step, and then the table's. Assumes nothing.
+-- `dispatch` meets its contract: bad tables, what is answered without the binding table, and what is not. Assumes nothing.
 use borrow.Author.Needs.{needs}
 use Rattle.zigbee_types.proofs.Elements.{length-mapped}
 use Rattle.zdo_dispatcher.proofs.Requests.{bad-tables, device-good, table-good}
-use Rattle.zdo_dispatcher.proofs.Steps.{was-told, asks-low, asks-room, was-asked}
+use Rattle.zdo_dispatcher.proofs.Taken.{was-told, asks-low, asks-room, was-asked}
 use Rattle.zdo_dispatcher.proofs.dispatcher.dispatch.Statement.{statement}
 use Rattle.zdo_dispatcher.proofs.dispatcher.dispatch.Tie as tie
 
@@ -15,9 +15,9 @@ dispatch-spec =
     (λ c κs. search laws)  -- good-tables-requires
     (λ c κs. search laws)  -- good-sizes-requires
     (λ c. search laws)  -- returns
-    (λ c κs. search laws)  -- first-step-requires
-    (λ c. search laws)  -- enum-known-step
-    (λ c. search laws)  -- enum-known-step-2
+    (λ c κs. search laws)  -- take-requires
+    (λ c. search laws)  -- enum-known-taken
+    (λ c. search laws)  -- enum-known-taken-2
     (λ c κs. (search laws, (search laws, search laws)))  -- link-answer-requires
     (λ c. search laws)  -- same-length
     (λ c. search laws)  -- returns-2

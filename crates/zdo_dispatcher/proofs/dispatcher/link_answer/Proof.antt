@@ -1,5 +1,4 @@
 -- `link_answer` meets its contract: the table makes a step, and its status is told. Assumes nothing.
-use mathlib.Core.Path.{refl}
 use borrow.Author.Needs.{needs}
 use Rattle.zdo_dispatcher.proofs.Links.{link-made}
 use Rattle.zdo_dispatcher.proofs.dispatcher.link_answer.Statement.{statement}

@@ -25,13 +25,13 @@ use Rattle.zdo_device.specs.declared.descriptor.DeviceDescriptorConfig.{DeviceD
 use Rattle.zdo_discovery.specs.Host.{Host, Asked, asking}
 use Rattle.zdo_discovery.specs.Discovery.{discovered}
 use Rattle.zdo_dispatcher.specs.Answers.{Answer, reply, Told, replied, leaving, responseSays, sourceStatus, linkAnswer, onLink, answered, Dispatched}
-use Rattle.zdo_dispatcher.specs.Steps.{linkWith, answeredWith, Linking, AtStep, Stepped}
+use Rattle.zdo_dispatcher.specs.Taken.{linkWith, answeredWith, Linking, AtTaken, TakenTo}
 use Rattle.zdo_dispatcher.specs.declared.dispatcher.Link.{Link}
 use Rattle.zdo_dispatcher.specs.declared.dispatcher.Link.the-variants.{Bind, Unbind}
 use Rattle.zdo_dispatcher.specs.declared.dispatcher.Response.{Response}
 use Rattle.zdo_dispatcher.specs.declared.dispatcher.Response.the-variants as response
-use Rattle.zdo_dispatcher.specs.declared.dispatcher.Step.{Step}
-use Rattle.zdo_dispatcher.specs.declared.dispatcher.Step.the-variants as step
+use Rattle.zdo_dispatcher.specs.declared.dispatcher.Taken.{Taken}
+use Rattle.zdo_dispatcher.specs.declared.dispatcher.Taken.the-variants as taken
 use Rattle.zdo_dispatcher.proofs.Links.{link-full, link-denied}
 use Rattle.zdo_dispatcher.proofs.Requests.{link-read, link-unread, at-bind, at-unbind, at-leave, at-discovery}
 use Rattle.zdo_dispatcher.proofs.Told.{dispatched-refused}
@@ -47,98 +47,98 @@ unfolding bindReqSays
 was-read payload {r} {q} said is = read q (rw (← said, is))
 
 -- too short a buffer
-pub step-full :
+pub take-full :
     (payload : List ℕ) (l : Link) (d : DeviceDescriptorConfig) (long : IeeeAddress) (cluster : ℕ) (out : List ℕ)
     → Read payload
     → length out < 2
-    → Stepped (linkWith l d long (asking cluster payload out)) cluster (step.Told (response.Refused ShortBuffer)) out out
-unfolding AtStep linkWith asking andThen onLink
-step-full payload l d long cluster out (read q is) short = record { at = λ t full good. rw is (link-full l (sourceStatus d long q) t q cluster out short) }
+    → TakenTo (linkWith l d long (asking cluster payload out)) cluster (taken.Answered (response.Refused ShortBuffer)) out out
+unfolding AtTaken linkWith asking andThen onLink
+take-full payload l d long cluster out (read q is) short = record { at = λ t full good. rw is (link-full l (sourceStatus d long q) t q cluster out short) }
 
 module _ (payload : List ℕ) (l : Link) (d : DeviceDescriptorConfig) (long : IeeeAddress) (cluster : ℕ) (out : List ℕ) {r : BindReqRead} (said : bindReqSays r ≡ bindReqIn payload) where
   -- none was read
-  pub step-unread : {why : Refusal} → r ≡ bind.Refused why → Stepped (linkWith l d long (asking cluster payload out)) cluster (step.Told (response.Refused why)) out out
-  unfolding AtStep linkWith asking responseSays
-  step-unread {why} is =
+  pub take-unread : {why : Refusal} → r ≡ bind.Refused why → TakenTo (linkWith l d long (asking cluster payload out)) cluster (taken.Answered (response.Refused why)) out out
+  unfolding AtTaken linkWith asking responseSays
+  take-unread {why} is =
       record { at = λ t full good. rw (link-unread payload l d long t cluster out said is) (dispatched-refused why t out (refusalNumber why) refl) }
 
   module _ {q : BindReq} (is : r ≡ bind.Request q) where
     module _ {source code : ℕ} (ours : source ≡ sourceStatus d long q) (coded : code ≡ source) where
       -- the source is not ours
-      pub step-denied :
+      pub take-denied :
           {n : Outcome ℕ} {after : List ℕ} {told : Response}
           → (code ≡ SUCCESS → ⊥)
           → Wrote (statusRsp (q .seq) source) out n after
           → responseSays told ≡ mapped (replied (replyCluster cluster)) n
-          → Stepped (linkWith l d long (asking cluster payload out)) cluster (step.Told told) out after
-      unfolding AtStep linkWith asking
-      step-denied other w tells =
+          → TakenTo (linkWith l d long (asking cluster payload out)) cluster (taken.Answered told) out after
+      unfolding AtTaken linkWith asking
+      take-denied other w tells =
           record { at = λ t full good. rw (link-read payload l d long t cluster out said is, ← ours) (link-denied l source t q cluster out tells good full coded other w) }
 
       -- it is
-      pub step-asks : code ≡ SUCCESS → cluster < 2 ^ 15 → 2 ≤ length out → Stepped (linkWith l d long (asking cluster payload out)) cluster (step.Asks l q) out out
-      unfolding AtStep linkWith asking
-      step-asks granted low room =
+      pub take-asks : code ≡ SUCCESS → cluster < 2 ^ 15 → 2 ≤ length out → TakenTo (linkWith l d long (asking cluster payload out)) cluster (taken.Asks l q) out out
+      unfolding AtTaken linkWith asking
+      take-asks granted low room =
           record { at = record { low = low; room = room; stays = refl; comes = λ t good. rw (link-read payload l d long t cluster out said is, ← ours, ← coded, granted) } }
 
 -- ---- any request
 
--- what a step is of goes by what each good table comes to
-step-as :
-    {o p : BindingTable → Outcome Answer} {cluster : ℕ} {before after : List ℕ} (s : Step)
+-- how far a request was taken goes by what each good table comes to
+take-as :
+    {o p : BindingTable → Outcome Answer} {cluster : ℕ} {before after : List ℕ} (s : Taken)
     → ((t : BindingTable) → goodTable t ≡ true → o t ≡ p t)
-    → Stepped o cluster s before after
-    → Stepped p cluster s before after
-unfolding AtStep
-step-as (step.Told r) same h = record { at = λ t full good. rw (← same t good) (h .at t full good) }
-step-as (step.Asks l q) same h =
+    → TakenTo o cluster s before after
+    → TakenTo p cluster s before after
+unfolding AtTaken
+take-as (taken.Answered r) same h = record { at = λ t full good. rw (← same t good) (h .at t full good) }
+take-as (taken.Asks l q) same h =
     record { at = record { low = h .at .low; room = h .at .room; stays = h .at .stays; comes = λ t good. sym (same t good) ∙ h .at .comes t good } }
 
 module _ (h : Host) (device : goodDevice (h .pools) (h .device) ≡ true) (cluster : ℕ) (payload out : List ℕ) where
-  pub step-bind :
-      {s : Step} {after : List ℕ}
+  pub take-bind :
+      {s : Taken} {after : List ℕ}
       → cluster ≡ BIND-REQ
-      → Stepped (linkWith Bind (h .device) (h .«ieee_addr») (asking cluster payload out)) cluster s out after
-      → Stepped (answeredWith h (asking cluster payload out)) cluster s out after
+      → TakenTo (linkWith Bind (h .device) (h .«ieee_addr») (asking cluster payload out)) cluster s out after
+      → TakenTo (answeredWith h (asking cluster payload out)) cluster s out after
   unfolding linkWith answeredWith asking
-  step-bind {s} e = step-as s (λ t good. at-bind h t device good cluster payload out e)
+  take-bind {s} e = take-as s (λ t good. at-bind h t device good cluster payload out e)
 
-  pub step-unbind :
-      {s : Step} {after : List ℕ}
+  pub take-unbind :
+      {s : Taken} {after : List ℕ}
       → cluster ≡ UNBIND-REQ
-      → Stepped (linkWith Unbind (h .device) (h .«ieee_addr») (asking cluster payload out)) cluster s out after
-      → Stepped (answeredWith h (asking cluster payload out)) cluster s out after
+      → TakenTo (linkWith Unbind (h .device) (h .«ieee_addr») (asking cluster payload out)) cluster s out after
+      → TakenTo (answeredWith h (asking cluster payload out)) cluster s out after
   unfolding linkWith answeredWith asking
-  step-unbind {s} e = step-as s (λ t good. at-unbind h t device good cluster payload out e)
+  take-unbind {s} e = take-as s (λ t good. at-unbind h t device good cluster payload out e)
 
-  pub step-leave :
+  pub take-leave :
       {told : Response}
       → cluster ≡ MGMT-LEAVE-REQ
       → responseSays told ≡ mapped leaving (mgmtLeaveReqIn payload)
-      → Stepped (answeredWith h (asking cluster payload out)) cluster (step.Told told) out out
-  unfolding AtStep answeredWith
-  step-leave e f = record { at = λ t full good. at-leave h t device good cluster payload out e f }
+      → TakenTo (answeredWith h (asking cluster payload out)) cluster (taken.Answered told) out out
+  unfolding AtTaken answeredWith
+  take-leave e f = record { at = λ t full good. at-leave h t device good cluster payload out e f }
 
-  pub step-discovery :
+  pub take-discovery :
       {told : Response} {after : List ℕ}
       → Unnamed Unit (λ k. k) cluster (BIND-REQ ∷ UNBIND-REQ ∷ MGMT-LEAVE-REQ ∷ [])
       → ((u : BindingTable) → Dispatched (mapped (λ bytes. reply (replyCluster cluster) bytes u) (discovered h (asking cluster payload out))) u out (responseSays told) u after)
-      → Stepped (answeredWith h (asking cluster payload out)) cluster (step.Told told) out after
-  unfolding AtStep answeredWith
-  step-discovery other w = record { at = λ t full good. at-discovery h t device good cluster payload out other w }
+      → TakenTo (answeredWith h (asking cluster payload out)) cluster (taken.Answered told) out after
+  unfolding AtTaken answeredWith
+  take-discovery other w = record { at = λ t full good. at-discovery h t device good cluster payload out other w }
 
 -- ---- with the table
 
-module _ (h : Host) (a : Asked) {cluster : ℕ} {s : Step} {before after : List ℕ} (was : Stepped (answeredWith h a) cluster s before after) where
+module _ (h : Host) (a : Asked) {cluster : ℕ} {s : Taken} {before after : List ℕ} (was : TakenTo (answeredWith h a) cluster s before after) where
   -- it was answered
-  pub was-told : (t : BindingTable) {r : Response} → goodTable t ≡ true → length (t .entries) ≡ 32 → s ≡ step.Told r → Dispatched (answered h t a) t before (responseSays r) t after
-  unfolding AtStep answeredWith
+  pub was-told : (t : BindingTable) {r : Response} → goodTable t ≡ true → length (t .entries) ≡ 32 → s ≡ taken.Answered r → Dispatched (answered h t a) t before (responseSays r) t after
+  unfolding AtTaken answeredWith
   was-told t good full e = (rw e at was) .at t full good
 
-  -- the table makes a step
-  module _ {l : Link} {q : BindReq} (e : s ≡ step.Asks l q) where
+  -- it asks for an entry to be bound or unbound
+  module _ {l : Link} {q : BindReq} (e : s ≡ taken.Asks l q) where
     linking : Linking (answeredWith h a) l q cluster before after
-    unfolding AtStep
+    unfolding AtTaken
     linking = (rw e at was) .at
 
     pub asks-low : cluster < 2 ^ 15

@@ -15,8 +15,8 @@ use Rattle.zdo_requests.specs.declared.descriptor.BindReq.{BindReq}
 use Rattle.zdo_device.specs.declared.descriptor.DeviceDescriptorConfig.{DeviceDescriptorConfig}
 use Rattle.zdo_discovery.specs.Host.{Host, Asked}
 use Rattle.zdo_dispatcher.specs.declared.dispatcher.Link.{Link}
-use Rattle.zdo_dispatcher.specs.declared.dispatcher.Step.{Step}
-use Rattle.zdo_dispatcher.specs.declared.dispatcher.Step.the-variants.{Told, Asks}
+use Rattle.zdo_dispatcher.specs.declared.dispatcher.Taken.{Taken}
+use Rattle.zdo_dispatcher.specs.declared.dispatcher.Taken.the-variants.{Answered, Asks}
 
 -- what a bind or an unbind request comes to, with each table
 unfoldable pub linkWith : Link → DeviceDescriptorConfig → IeeeAddress → Asked → BindingTable → Outcome Answer
@@ -33,12 +33,12 @@ pub record Linking (o : BindingTable → Outcome Answer) (link : Link) (q : Bind
   pub stays : after ≡ before
   pub comes : (t : BindingTable) → goodTable t ≡ true → o t ≡ linkAnswer link SUCCESS t q cluster (length before)
 
--- it was answered, and leaves every good table as it is; or it asks for a step of the table
-unfoldable pub AtStep : (BindingTable → Outcome Answer) → ℕ → Step → List ℕ → List ℕ → Type 0
-AtStep o cluster (Told r) before after =
+-- it was answered, and leaves every good table of 32 places as it is; or it asks for an entry to be bound or unbound
+unfoldable pub AtTaken : (BindingTable → Outcome Answer) → ℕ → Taken → List ℕ → List ℕ → Type 0
+AtTaken o cluster (Answered r) before after =
     (t : BindingTable) → length (t .entries) ≡ 32 → goodTable t ≡ true → Dispatched (o t) t before (responseSays r) t after
-AtStep o cluster (Asks link q) before after = Linking o link q cluster before after
+AtTaken o cluster (Asks link q) before after = Linking o link q cluster before after
 
--- a request that comes to o with each table, and was taken to this step
-pub record Stepped (o : BindingTable → Outcome Answer) (cluster : ℕ) (s : Step) (before after : List ℕ) : Type 0 where
-  pub at : AtStep o cluster s before after
+-- a request that comes to o with each table, and was taken so far (a record, so that a proof can find it by its parts)
+pub record TakenTo (o : BindingTable → Outcome Answer) (cluster : ℕ) (s : Taken) (before after : List ℕ) : Type 0 where
+  pub at : AtTaken o cluster s before after
