@@ -21,9 +21,10 @@ struct binding { u64 dst_ieee; u16 cluster; u8 src_endpoint, mode; u16 group; u8
 struct table { struct binding entries[32]; u64 limit, count; };
 struct linked { struct table table; u8 status, why; };
 struct written { u8 tag, why; u64 length; };
-struct response { u8 tag, why; u16 cluster; u64 length, leave[3]; };
+struct leave_req { u8 seq; struct { u8 none; u64 address; } device; u8 remove_children, rejoin; };
+struct response { u8 tag, why; u16 cluster; union { u64 length; struct leave_req leave; }; };
 struct responded { struct table table; struct response response; };
-struct destination { u8 tag; u64 ieee; u8 endpoint; };
+struct destination { u8 group; u16 address; u64 ieee; u8 endpoint; };
 struct bind_req { u8 seq; u64 src_address; u8 src_endpoint; u16 cluster_id; struct destination destination; };
 struct bind_req_read { u8 tag, why; struct bind_req request; };
 struct places { u64 start, count; };
@@ -31,6 +32,11 @@ struct match_req { u8 seq; u16 nwk_addr, profile_id; struct places inputs, outpu
 struct matching { u8 tag, why; u64 written; };
 
 _Static_assert(sizeof(struct device) == 488 && sizeof(struct linked) == 536 && sizeof(struct responded) == 568, "layouts");
+
+/* ---- what both sides say, in one form */
+
+struct said { u16 cluster; u64 length; u8 leave, seq; u64 device; u8 remove_children, rejoin, refused; };
+struct parsed { u8 seq; u64 src_address; u8 src_endpoint; u16 cluster_id, group; u64 ieee; u8 endpoint; };
 
 #define RATTLE(name, path) name __asm__(path)
 void RATTLE(node_desc_rsp(struct written *, const struct node *, u8, const u16 *, const struct run *), "zdo_desc_rsp::descriptor::node_desc_rsp");
@@ -49,7 +55,8 @@ u8 rust_unbind(void *, const struct run *);
 void rust_match_request(const struct run *, void *);
 u64 rust_matching(const void *, const void *, const struct run *);
 void rust_dispatch(void *, const void *, u64, u16, void *, u16, const struct run *, const struct run *);
-u64 rust_length(const void *);
+void rust_said(const void *, struct said *);
+u8 rust_parsed(const void *, struct parsed *);
 const void *rust_device(void *, const struct record *, u64, const u16 *, const u16 *);
 u64 rust_device_size(void);
 void rust_table(void *);

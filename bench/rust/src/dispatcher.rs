@@ -2,7 +2,7 @@
 //! it, the device and the table behind references. It refuses no tables, since the Rust's cannot be bad.
 
 use crate::links::{Table, entry};
-use crate::{Device, REFUSED, Run};
+use crate::{Device, Run};
 use zigbee_core::apl::descriptors::node_descriptor::LogicalType;
 use zigbee_core::aps::binding::probe::{Outcome, create, remove};
 use zigbee_core::zdo::descriptor::{self as zdo, BindStatus, DiscoveryError};
@@ -200,12 +200,32 @@ pub unsafe extern "C" fn rust_dispatch(
     *response = unsafe { dispatch(&host, table, cluster, payload.bytes(), out.buffer()) };
 }
 
-/// The length of a reply, 0 of a leave; or that it was refused.
+/// What a response says, for the driver to hold the two sides against each other.
+#[repr(C)]
+pub struct Said {
+    cluster: u16,
+    length: usize,
+    leave: bool,
+    seq: u8,
+    device: u64,
+    remove_children: bool,
+    rejoin: bool,
+    refused: u8,
+}
+
 #[unsafe(no_mangle)]
-pub extern "C" fn rust_length(response: &Result<Response, Refusal>) -> usize {
+pub extern "C" fn rust_said(response: &Result<Response, Refusal>, said: &mut Said) {
     match response {
-        Ok(Response::Reply { cluster, length }) if *cluster >= 0x8000 => *length,
-        Ok(Response::Leave(request)) => usize::from(request.seq == 0),
-        _ => REFUSED,
+        Ok(Response::Reply { cluster, length }) => {
+            (said.cluster, said.length) = (*cluster, *length);
+        }
+        Ok(Response::Leave(request)) => {
+            said.leave = true;
+            said.seq = request.seq;
+            said.device = request.device_address.map_or(0, |address| address.0);
+            said.remove_children = request.remove_children;
+            said.rejoin = request.rejoin;
+        }
+        Err(number) => said.refused = *number,
     }
 }

@@ -22,6 +22,34 @@ pub unsafe extern "C" fn rust_parse(payload: &Run, request: &mut Option<BindReq>
     *request = parse_bind_req(unsafe { payload.bytes() });
 }
 
+/// The fields of a parsed request, for the driver to hold the two sides against each other.
+#[repr(C)]
+pub struct Parsed {
+    seq: u8,
+    src_address: u64,
+    src_endpoint: u8,
+    cluster_id: u16,
+    group: u16,
+    ieee: u64,
+    endpoint: u8,
+}
+
+#[unsafe(no_mangle)]
+pub extern "C" fn rust_parsed(request: &Option<BindReq>, parsed: &mut Parsed) -> bool {
+    let Some(request) = request else { return false };
+    parsed.seq = request.seq;
+    parsed.src_address = request.src_address.0;
+    parsed.src_endpoint = request.src_endpoint;
+    parsed.cluster_id = request.cluster_id;
+    match request.destination {
+        BindReqDestination::Group(group) => parsed.group = group,
+        BindReqDestination::Device { ieee, endpoint } => {
+            (parsed.ieee, parsed.endpoint) = (ieee.0, endpoint);
+        }
+    }
+    true
+}
+
 /// 0 for success, 1 for a full table, 2 for no entry, 3 for a payload that is refused.
 #[unsafe(no_mangle)]
 pub unsafe extern "C" fn rust_bind(table: &mut Table, payload: &Run) -> u8 {
