@@ -136,7 +136,7 @@ static void parse_row(void) {
     struct bind_req q = read.request;
     struct parsed ours = { q.seq, q.src_address, q.src_endpoint, q.cluster_id, 0, q.destination.ieee, q.destination.endpoint }, theirs;
     memset(&theirs, 0, sizeof theirs);
-    must(!read.tag && rust_parsed(rust_request, &theirs), "a request was not parsed");
+    must(!read.tag && q.destination.device && rust_parsed(rust_request, &theirs), "a request was not parsed");
     must(same_parsed(&ours, &theirs), "the requests differ");
 }
 

@@ -24,7 +24,7 @@ struct written { u8 tag, why; u64 length; };
 struct leave_req { u8 seq; struct { u8 none; u64 address; } device; u8 remove_children, rejoin; };
 struct response { u8 tag, why; u16 cluster; union { u64 length; struct leave_req leave; }; };
 struct responded { struct table table; struct response response; };
-struct destination { u8 group; u16 address; u64 ieee; u8 endpoint; };
+struct destination { u8 device; u16 group; u64 ieee; u8 endpoint; };
 struct bind_req { u8 seq; u64 src_address; u8 src_endpoint; u16 cluster_id; struct destination destination; };
 struct bind_req_read { u8 tag, why; struct bind_req request; };
 struct places { u64 start, count; };

@@ -6,8 +6,11 @@
     stack[row, side] = part[3]
     next
 }
-{ count[row, side] = $1 - ($2 ? $2 : 0) + ($2 ? 1 : 0) }
+# a call that runs a string instruction would be counted by its bytes; none does
+$2 > 0 { print "table: a string instruction in " row > "/dev/stderr"; wrong = 1; exit 1 }
+{ count[row, side] = $1 }
 END {
+    if (wrong) exit 1
     print "| call | here | the Rust | ratio | stack here | the Rust | ratio |"
     print "|---|---:|---:|---:|---:|---:|---:|"
     for (i = 1; i <= n; i++) {

@@ -259,7 +259,7 @@ fn take<'a>(
 // Answers a request: a reply in the buffer, or a leave for the host, with the table after it. Refused are bad tables, then a cluster
 // that is none of the ten, then a payload that is malformed, then a descriptor of too many clusters, then too short a buffer; buffer
 // and table are then as they were. (The table is handed on only where an entry is bound or unbound: each function that takes it copies
-// it.)
+// it. The second arm returns by itself, since two arms that meet cost a copy.)
 pub fn dispatch<'a>(
     device: DeviceDescriptorConfig,
     ieee_addr: IeeeAddress,
