@@ -102,22 +102,23 @@ module _ (p : Pools) (d : DeviceDescriptorConfig) (t : BindingTable) {x y : Bool
 
 -- ---- by the cluster, of good tables
 
+-- the cluster of a bind or an unbind
+abbrev pub linkCluster : Link → ℕ
+linkCluster Bind = BIND-REQ
+linkCluster Unbind = UNBIND-REQ
+
 module _ (h : Host) (t : BindingTable) (device : goodDevice (h .pools) (h .device) ≡ true) (table : goodTable t ≡ true) (cluster : ℕ) (payload out : List ℕ) where
   by : answered h t (asking cluster payload out) ≡ byCluster h t (asking cluster payload out)
   unfolding answered goodHost
   by = rw (device, table)
 
-  pub at-bind :
-      cluster ≡ BIND-REQ
-      → andThen (bindReqIn payload) (onLink Bind (h .device) (h .«ieee_addr») t (asking cluster payload out)) ≡ answered h t (asking cluster payload out)
+  pub at-link :
+      (l : Link)
+      → cluster ≡ linkCluster l
+      → andThen (bindReqIn payload) (onLink l (h .device) (h .«ieee_addr») t (asking cluster payload out)) ≡ answered h t (asking cluster payload out)
   unfolding byCluster asking
-  at-bind e = rw (by, e)
-
-  pub at-unbind :
-      cluster ≡ UNBIND-REQ
-      → andThen (bindReqIn payload) (onLink Unbind (h .device) (h .«ieee_addr») t (asking cluster payload out)) ≡ answered h t (asking cluster payload out)
-  unfolding byCluster asking
-  at-unbind e = rw (by, e)
+  at-link Bind e = rw (by, e)
+  at-link Unbind e = rw (by, e)
 
   pub at-leave :
       {told : Outcome Told}

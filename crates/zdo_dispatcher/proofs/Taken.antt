@@ -27,13 +27,12 @@ use Rattle.zdo_discovery.specs.Discovery.{discovered}
 use Rattle.zdo_dispatcher.specs.Answers.{Answer, reply, Told, replied, leaving, responseSays, sourceStatus, linkAnswer, onLink, answered, Dispatched}
 use Rattle.zdo_dispatcher.specs.Taken.{linkWith, answeredWith, Linking, AtTaken, TakenTo}
 use Rattle.zdo_dispatcher.specs.declared.dispatcher.Link.{Link}
-use Rattle.zdo_dispatcher.specs.declared.dispatcher.Link.the-variants.{Bind, Unbind}
 use Rattle.zdo_dispatcher.specs.declared.dispatcher.Response.{Response}
 use Rattle.zdo_dispatcher.specs.declared.dispatcher.Response.the-variants as response
 use Rattle.zdo_dispatcher.specs.declared.dispatcher.Taken.{Taken}
 use Rattle.zdo_dispatcher.specs.declared.dispatcher.Taken.the-variants as taken
 use Rattle.zdo_dispatcher.proofs.Links.{link-full, link-denied}
-use Rattle.zdo_dispatcher.proofs.Requests.{link-read, link-unread, at-bind, at-unbind, at-leave, at-discovery}
+use Rattle.zdo_dispatcher.proofs.Requests.{link-read, link-unread, linkCluster, at-link, at-leave, at-discovery}
 use Rattle.zdo_dispatcher.proofs.Told.{dispatched-refused}
 
 -- ---- a bind or an unbind request
@@ -95,21 +94,13 @@ take-as (taken.Asks l q) same h =
     record { at = record { low = h .at .low; room = h .at .room; stays = h .at .stays; comes = λ t good. sym (same t good) ∙ h .at .comes t good } }
 
 module _ (h : Host) (device : goodDevice (h .pools) (h .device) ≡ true) (cluster : ℕ) (payload out : List ℕ) where
-  pub take-bind :
-      {s : Taken} {after : List ℕ}
-      → cluster ≡ BIND-REQ
-      → TakenTo (linkWith Bind (h .device) (h .«ieee_addr») (asking cluster payload out)) cluster s out after
+  pub take-linked :
+      (l : Link) {s : Taken} {after : List ℕ}
+      → TakenTo (linkWith l (h .device) (h .«ieee_addr») (asking cluster payload out)) cluster s out after
+      → cluster ≡ linkCluster l
       → TakenTo (answeredWith h (asking cluster payload out)) cluster s out after
   unfolding linkWith answeredWith asking
-  take-bind {s} e = take-as s (λ t good. at-bind h t device good cluster payload out e)
-
-  pub take-unbind :
-      {s : Taken} {after : List ℕ}
-      → cluster ≡ UNBIND-REQ
-      → TakenTo (linkWith Unbind (h .device) (h .«ieee_addr») (asking cluster payload out)) cluster s out after
-      → TakenTo (answeredWith h (asking cluster payload out)) cluster s out after
-  unfolding linkWith answeredWith asking
-  take-unbind {s} e = take-as s (λ t good. at-unbind h t device good cluster payload out e)
+  take-linked l {s} w e = take-as s (λ t good. at-link h t device good cluster payload out l e) w
 
   pub take-leave :
       {told : Response}

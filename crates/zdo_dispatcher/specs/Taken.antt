@@ -1,4 +1,4 @@
--- A request that was taken as far as it goes without the binding table: the contracts of the functions in `dispatch`.
+-- A request that was taken as far as it goes without the binding table: what the functions that `dispatch` is made of promise.
 use Prim.Native.Nat.{ℕ, _^_, _<_, _≤_}
 use mathlib.Core.Path.{_≡_}
 use mathlib.Core.Bool.{true}

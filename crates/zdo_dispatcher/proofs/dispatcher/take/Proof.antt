@@ -1,10 +1,10 @@
 -- `take` meets its contract, for each cluster. Assumes nothing.
 use borrow.Author.Needs.{needs}
-use Rattle.zdo_dispatcher.proofs.Taken.{take-bind, take-unbind, take-leave, take-discovery}
+use Rattle.zdo_dispatcher.proofs.Taken.{take-linked, take-leave, take-discovery}
 use Rattle.zdo_dispatcher.proofs.dispatcher.take.Statement.{statement}
 use Rattle.zdo_dispatcher.proofs.dispatcher.take.Tie as tie
 
-ruleset laws = (needs, take-bind, take-unbind, take-leave, take-discovery)
+ruleset laws = (needs, take-linked, take-leave, take-discovery)
 
 pub take-spec : {M : Type 1} → statement M
 take-spec =
