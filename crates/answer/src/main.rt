@@ -1,6 +1,8 @@
 // Answers requests: a request on each line of standard input, and its answer on a line of standard output (document 01,
 // "Counter-cases"). The input may be of any length. Answers wait in a buffer until it is full or the input that was read is used up, so
 // that whoever types a line sees its answer.
+#![tactic(auto)]
+
 ghost use Rattle.std.specs.Prelude.{◌+◌, ◌≤◌, ◌<◌, length};
 
 use answer_lines::session::{LINE, Session, TEXT, Turn, line_buffer};

@@ -37,14 +37,14 @@ const ROOM: usize = 128;
 const PAYLOAD: usize = 2045;
 
 // What is kept from turn to turn: the binding table, and how much of a line has begun.
-#[derive(Drop)]
+#[derive(Clone, Copy)]
 pub struct Session {
     pub table: BindingTable,
     pub splitter: Splitter,
 }
 
 // The session after a turn, the place in the chunk behind what was taken, and the length of what was written.
-#[derive(Drop)]
+#[derive(Clone, Copy)]
 pub struct Turn {
     pub session: Session,
     pub at: usize,
@@ -52,14 +52,14 @@ pub struct Turn {
 }
 
 // The binding table after a line, and how much of its text was written, without the line feed.
-#[derive(Drop)]
+#[derive(Clone, Copy)]
 struct Answered {
     table: BindingTable,
     written: Written,
 }
 
 // The same, with the line feed.
-#[derive(Drop)]
+#[derive(Clone, Copy)]
 struct Spoken {
     table: BindingTable,
     length: usize,

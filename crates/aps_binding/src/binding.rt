@@ -6,7 +6,7 @@ use zigbee_types::{GroupAddress, IeeeAddress};
 
 // A binding table entry (2.2.8.2.1). The fields stand in the order that makes an entry 16 bytes. Those of the destination
 // that the mode does not name are zero in an entry that `group` or `device` built.
-#[derive(Drop)]
+#[derive(Clone, Copy)]
 pub struct Binding {
     pub dst_ieee: IeeeAddress,
     // Cluster the binding applies to.

@@ -7,7 +7,7 @@ use aps_binding::binding::Binding;
 use zigbee_types::{GroupAddress, Refusal};
 
 // The binding table as held in the AIB: thirty-two places, of which the first `count` are used, and at most `limit` may be.
-#[derive(Drop)]
+#[derive(Clone, Copy)]
 pub struct BindingTable {
     pub entries: [Binding; 32],
     pub limit: usize,
@@ -29,7 +29,7 @@ impl BindingTable {
 }
 
 // What a bind or an unbind came to (for the Rust's `Result<(), BindingError>`), or why it was refused.
-#[derive(Drop)]
+#[derive(Clone, Copy)]
 pub enum LinkStatus {
     Success,
     InvalidBinding,
@@ -38,7 +38,7 @@ pub enum LinkStatus {
 }
 
 // The table after a bind or an unbind, and what it came to.
-#[derive(Drop)]
+#[derive(Clone, Copy)]
 pub struct Linked {
     pub table: BindingTable,
     pub status: LinkStatus,

@@ -1,2 +1,4 @@
 // The binding table: bind and unbind (2.2.8.2; 004).
+#![tactic(auto)]
+
 pub mod binding;

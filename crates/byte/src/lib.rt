@@ -1,32 +1,34 @@
 // Little-endian fields at a place of a slice (document 01, module 1), and bits of a number. A field of more than one byte is two
 // halves, the low half first; what reads or puts one hands back the place behind it, where the next field begins.
 // (Named after the crate by which the Rust reads and writes its fields.)
+#![tactic(auto)]
+
 ghost use Rattle.std.specs.Prelude.{◌≡◌, ◌+◌, ◌*◌, ◌%◌, ◌≤◌, length};
 ghost use Rattle.zigbee_types.specs.Bytes.{bit_at, FieldRead, FieldPut};
 
 // A field of one byte that was read, and the place behind it.
-#[derive(Drop)]
+#[derive(Clone, Copy)]
 pub struct ReadU8 {
     pub value: u8,
     pub next: usize,
 }
 
 // A field of two bytes that was read, and the place behind it.
-#[derive(Drop)]
+#[derive(Clone, Copy)]
 pub struct ReadU16 {
     pub value: u16,
     pub next: usize,
 }
 
 // A field of four bytes that was read, and the place behind it.
-#[derive(Drop)]
+#[derive(Clone, Copy)]
 struct ReadU32 {
     value: u32,
     next: usize,
 }
 
 // A field of eight bytes that was read, and the place behind it.
-#[derive(Drop)]
+#[derive(Clone, Copy)]
 pub struct ReadU64 {
     pub value: u64,
     pub next: usize,

@@ -1,4 +1,6 @@
 // Two counted lists of clusters in a frame (document 01, modules 4 and 5).
+#![tactic(auto)]
+
 ghost use Rattle.std.specs.Prelude.{◌≡◌, ◌+◌, ◌≤◌, length};
 ghost use Rattle.zigbee_types.specs.Layout.{ListRead, lists_in};
 ghost use Rattle.zigbee_types.specs.Answers.{lists_says};
@@ -7,7 +9,7 @@ use byte::read_u8;
 use zigbee_types::{ClusterLists, ClusterListsRead, Places, Refusal};
 
 // A list that was counted, and the place behind it.
-#[derive(Drop)]
+#[derive(Clone, Copy)]
 struct ReadList {
     list: Places,
     next: usize,

@@ -4,7 +4,7 @@ use byte::{read_u8, read_u16, read_u64, write_u8, write_u16, write_u64};
 use zigbee_types::{GroupAddress, IeeeAddress};
 
 // The fields of a bind request to a group (2.4.3.2.2).
-#[derive(Drop)]
+#[derive(Clone, Copy)]
 struct Fields {
     seq: u8,
     src_address: IeeeAddress,

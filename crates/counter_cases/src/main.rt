@@ -2,6 +2,8 @@
 // Its file stdout has what document 01 says. K1 to K11 are there, of K10 first the request and the reply each by itself, and beside
 // them the other requests and replies, the readers of replies, and more of the binding table, the device's records and matching. The
 // dispatcher comes last, with K1, K5, K7, K8 and K10 whole and its other rules.
+#![tactic(auto)]
+
 mod bindings;
 mod descriptors;
 mod device;

@@ -16,7 +16,7 @@ use zdo_readers::readers::{
 };
 
 // The readers. Mask is the Rust's, of a node reply's server mask; Status reads bind, unbind and leave replies.
-#[derive(Drop)]
+#[derive(Clone, Copy)]
 enum Reader {
     Mask,
     Node,

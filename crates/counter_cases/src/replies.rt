@@ -14,7 +14,7 @@ use zdo_requests::descriptor::node_desc_req;
 use zigbee_types::{IeeeAddress, ShortAddress, Written};
 
 // What is written here: replies of each kind, and the one request.
-#[derive(Drop)]
+#[derive(Clone, Copy)]
 enum Frame {
     NodeRequest,
     Node,
@@ -28,7 +28,7 @@ enum Frame {
 }
 
 // The replies that report an error. Node and power replies are one kind.
-#[derive(Drop)]
+#[derive(Clone, Copy)]
 enum ErrorKind {
     Node,
     Active,

@@ -14,7 +14,7 @@ use zdo_requests::descriptor::{
 };
 
 // The kinds of requests. Node, power and active requests are one kind.
-#[derive(Drop)]
+#[derive(Clone, Copy)]
 enum Kind {
     NwkAddress,
     IeeeAddress,

@@ -1,4 +1,6 @@
 // A number as text, in decimal. (Added by document 01, for the program `answer`.)
+#![tactic(auto)]
+
 ghost use Rattle.std.specs.Prelude.{◌≡◌, ◌≤◌, length};
 ghost use Rattle.std.proofs.lemmas.List.Edits.{sets};
 ghost use Rattle.zigbee_types.specs.Outcome.{answer, Wrote};

@@ -1,4 +1,6 @@
 // Lines of hexadecimal digits: a cluster, a space, and bytes. (Added by document 01, for the program `answer`.)
+#![tactic(auto)]
+
 ghost use Rattle.std.specs.Prelude.{◌≡◌, true, [], ◌∷◌, ◌+◌, ◌*◌, ◌≤◌, ◌<◌, length, get_or};
 ghost use Rattle.zigbee_types.specs.Lists.{all};
 ghost use Rattle.zigbee_types.specs.Outcome.{answer, Wrote};
@@ -10,7 +12,7 @@ ghost use Rattle.hex_lines.specs.Answers.{line_says};
 use zigbee_types::{Refusal, Written};
 
 // What a line is: a request, with its cluster and the length of its payload; none; or why it was refused.
-#[derive(Drop)]
+#[derive(Clone, Copy)]
 pub enum ParsedLine {
     Request { cluster: u16, length: usize },
     Other,

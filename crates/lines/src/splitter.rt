@@ -4,13 +4,13 @@ ghost use Rattle.std.specs.Prelude.{◌≡◌, drop};
 ghost use Rattle.lines.specs.Splitter.{pending, grown, ended, split, last, Splits};
 
 // How many characters the line has that has begun. A number above the buffer's length says that they are too many.
-#[derive(Drop)]
+#[derive(Clone, Copy)]
 pub struct Splitter {
     pub count: usize,
 }
 
 // What was found: a line, its characters at the front of the buffer; a line that is too long; or none yet.
-#[derive(Drop)]
+#[derive(Clone, Copy)]
 pub enum Found {
     Line(usize),
     Overlong,
@@ -18,7 +18,7 @@ pub enum Found {
 }
 
 // The splitter after some characters, the place in the chunk behind them, and what was found.
-#[derive(Drop)]
+#[derive(Clone, Copy)]
 pub struct Split {
     pub splitter: Splitter,
     pub at: usize,

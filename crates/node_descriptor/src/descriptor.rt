@@ -10,7 +10,7 @@ use byte::{write_u8, write_u16};
 use zigbee_types::{Refusal, Written};
 
 // Static configuration of the node descriptor (2.3.2.3).
-#[derive(Drop)]
+#[derive(Clone, Copy)]
 pub struct NodeDescriptorConfig {
     pub logical_type: LogicalType,
     pub complex_descriptor_available: bool,

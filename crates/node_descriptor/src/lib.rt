@@ -1,4 +1,6 @@
 // The node descriptor as it is read (001; 2.3.2.3).
+#![tactic(auto)]
+
 pub mod descriptor;
 
 ghost use Rattle.std.specs.Prelude.{◌≡◌, ◌%◌};
@@ -11,7 +13,7 @@ use zigbee_types::Refusal;
 pub(crate) const NODE_DESCRIPTOR_SIZE: usize = 13;
 
 // Logical type field (2.3.2.3.1): device type of the Zigbee node.
-#[derive(Drop)]
+#[derive(Clone, Copy)]
 pub enum LogicalType {
     Coordinator,
     Router,
@@ -68,7 +70,7 @@ impl LogicalType {
 
 // A node descriptor, as it was sent: several fields share byte 0 and byte 1, and each other field has bytes of its own. (The
 // Rust keeps a slice of the thirteen bytes.)
-#[derive(Drop)]
+#[derive(Clone, Copy)]
 pub struct NodeDescriptor {
     pub byte0: u8,
     pub byte1: u8,
@@ -82,7 +84,7 @@ pub struct NodeDescriptor {
 }
 
 // A node descriptor that was read, or why none was.
-#[derive(Drop)]
+#[derive(Clone, Copy)]
 pub enum NodeDescriptorRead {
     Descriptor(NodeDescriptor),
     Refused(Refusal),

@@ -1,4 +1,6 @@
 // The flags of the node descriptor's fields, and the stack revision in its server mask (001; 2.3.2.3).
+#![tactic(auto)]
+
 ghost use Rattle.std.specs.Prelude.{◌≡◌};
 ghost use Rattle.zigbee_types.specs.Bytes.{bit_at};
 ghost use Rattle.node_flags.specs.Flags.{frequency_band_flag_of, mac_capability_flag_of, server_mask_flag_of, descriptor_capability_flag_of, stack_revision};
@@ -6,11 +8,11 @@ ghost use Rattle.node_flags.specs.Flags.{frequency_band_flag_of, mac_capability_
 use byte::bit_at;
 
 // Frequency band field (2.3.2.3.5): frequency bands supported by the underlying IEEE 802.15.4 radio(s).
-#[derive(Drop)]
+#[derive(Clone, Copy)]
 pub struct FrequencyBands(pub u8);
 
 // The flags of the frequency band field.
-#[derive(Drop)]
+#[derive(Clone, Copy)]
 pub enum FrequencyBandFlag {
     // 868 - 868.6 MHz
     Low,
@@ -46,11 +48,11 @@ impl FrequencyBands {
 }
 
 // MAC capability flags field (2.3.2.3.6), as required by the IEEE 802.15.4-2015 MAC sub-layer.
-#[derive(Drop)]
+#[derive(Clone, Copy)]
 pub struct MacCapabilities(pub u8);
 
 // The flags of the MAC capability flags field.
-#[derive(Drop)]
+#[derive(Clone, Copy)]
 pub enum MacCapabilityFlag {
     // Set if this node is capable of becoming a PAN coordinator.
     AlternatePanCoordinator,
@@ -91,11 +93,11 @@ impl MacCapabilities {
 }
 
 // Server mask field (2.3.2.3.10).
-#[derive(Drop)]
+#[derive(Clone, Copy)]
 pub struct ServerMask(pub u16);
 
 // The flags of the server mask field.
-#[derive(Drop)]
+#[derive(Clone, Copy)]
 pub enum ServerMaskFlag {
     PrimaryTrustCenter,
     BackupTrustCenter,
@@ -140,11 +142,11 @@ impl ServerMask {
 }
 
 // Descriptor capability field.
-#[derive(Drop)]
+#[derive(Clone, Copy)]
 pub struct DescriptorCapabilities(pub u8);
 
 // The flags of the descriptor capability field, as the Rust spells them.
-#[derive(Drop)]
+#[derive(Clone, Copy)]
 pub enum DescriptorCapabilityFlag {
     ExtendedActiveEndpontListAvailable,
     ExtendedSimpleDescriptorListAvailable,

@@ -11,7 +11,7 @@ use power_names::{CurrentPowerMode, CurrentPowerSourceLevel, PowerSource};
 use zigbee_types::{Refusal, Written};
 
 // Static configuration of the node power descriptor (2.3.2.4).
-#[derive(Drop)]
+#[derive(Clone, Copy)]
 pub struct PowerDescriptorConfig {
     // Sleep and power-saving mode (2.3.2.4.1).
     pub current_power_mode: CurrentPowerMode,

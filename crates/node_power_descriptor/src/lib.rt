@@ -1,4 +1,6 @@
 // The node power descriptor as it is read (002; 2.3.2.4).
+#![tactic(auto)]
+
 pub mod descriptor;
 
 ghost use Rattle.std.specs.Prelude.{◌≡◌, ◌/◌, ◌%◌};
@@ -11,14 +13,14 @@ use zigbee_types::Refusal;
 pub(crate) const NODE_POWER_DESCRIPTOR_SIZE: usize = 2;
 
 // The two bytes of a node power descriptor. (The Rust keeps a slice of them.)
-#[derive(Drop)]
+#[derive(Clone, Copy)]
 pub struct NodePowerDescriptor {
     pub byte0: u8,
     pub byte1: u8,
 }
 
 // A node power descriptor that was read, or why none was.
-#[derive(Drop)]
+#[derive(Clone, Copy)]
 pub enum NodePowerDescriptorRead {
     Descriptor(NodePowerDescriptor),
     Refused(Refusal),

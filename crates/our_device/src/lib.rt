@@ -1,4 +1,6 @@
 // The device of document 01's counter-cases, and of the program `answer`.
+#![tactic(auto)]
+
 ghost use Rattle.std.specs.Prelude.{◌≡◌};
 ghost use Rattle.zdo_discovery.specs.Host.{asking};
 ghost use Rattle.zdo_dispatcher.specs.Answers.{answered, response_says, Dispatched};

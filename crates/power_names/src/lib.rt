@@ -1,11 +1,13 @@
 // The names in the node power descriptor's fields: modes, sources and levels, each with its number (002; 2.3.2.4).
+#![tactic(auto)]
+
 ghost use Rattle.std.specs.Prelude.{◌≡◌};
 ghost use Rattle.power_names.specs.Names.{mode_number, mode_bits, current_power_mode_of, source_number, source_bits, power_source_of, source_bitmap, level_number, level_bits, current_power_source_level_of};
 
 use byte::nibble;
 
 // Current power mode field (2.3.2.4.1).
-#[derive(Drop)]
+#[derive(Clone, Copy)]
 pub enum CurrentPowerMode {
     // Synchronized with the receiver-on-when-idle subfield of the node descriptor.
     Synchronized,
@@ -51,7 +53,7 @@ impl CurrentPowerMode {
 
 // A power source of the node, as its bit in the available power sources (2.3.2.4.2) and current power source (2.3.2.4.3)
 // fields, which share a bit assignment.
-#[derive(Drop)]
+#[derive(Clone, Copy)]
 pub enum PowerSource {
     ConstantMainPower,
     RechargeableBattery,
@@ -106,7 +108,7 @@ impl PowerSource {
 }
 
 // Current power source level field (2.3.2.4.4).
-#[derive(Drop)]
+#[derive(Clone, Copy)]
 pub enum CurrentPowerSourceLevel {
     Critical,
     OneThird,

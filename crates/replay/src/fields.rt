@@ -6,7 +6,7 @@ use crate::out::Text;
 use crate::{node, out, words};
 
 // A field of one, two or eight bytes.
-#[derive(Drop)]
+#[derive(Clone, Copy)]
 enum Width {
     U8,
     U16,

@@ -1,5 +1,7 @@
 // Answers questions about the library: a question on each line of standard input, and its answer on a line of standard output
 // (oracle/README.md, "Lines"). The input may be of any length.
+#![tactic(auto)]
+
 mod bindings;
 mod bits;
 mod fields;

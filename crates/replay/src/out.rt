@@ -9,7 +9,7 @@ use zigbee_types::Written;
 const ROOM: usize = 256;
 
 // The characters of an answer that are not written out yet: they stand at the front of the array, and are so many.
-#[derive(Drop)]
+#[derive(Clone, Copy)]
 pub(crate) struct Text {
     characters: [u8; ROOM],
     pub(crate) count: usize,

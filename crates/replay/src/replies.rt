@@ -11,7 +11,7 @@ use zdo_replies::management::NlmeLeaveStatus;
 use zigbee_types::{IeeeAddress, ShortAddress, Written};
 
 // A reply that is written. Those of the last case report an error of discovery.
-#[derive(Drop)]
+#[derive(Clone, Copy)]
 enum Reply {
     NodeDesc,
     PowerDesc,
@@ -23,7 +23,7 @@ enum Reply {
 }
 
 // A reply that reports an error of discovery.
-#[derive(Drop)]
+#[derive(Clone, Copy)]
 enum ErrorReply {
     Addr,
     Descriptor,

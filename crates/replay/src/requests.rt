@@ -12,7 +12,7 @@ use zdo_requests::descriptor::{
 use zigbee_types::{Places, ShortAddress};
 
 // A request that is parsed.
-#[derive(Drop)]
+#[derive(Clone, Copy)]
 enum Request {
     NwkAddr,
     IeeeAddr,

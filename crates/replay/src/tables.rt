@@ -17,7 +17,7 @@ use zigbee_types::{ShortAddress, Written};
 const LENT: usize = 33;
 
 // What is written from tables.
-#[derive(Drop)]
+#[derive(Clone, Copy)]
 enum Reply {
     Matching,
     ActiveEp,
@@ -25,7 +25,7 @@ enum Reply {
 }
 
 // How matching and the active list are handed the records: held by a device, or lent.
-#[derive(Drop)]
+#[derive(Clone, Copy)]
 enum Form {
     Held,
     Lent,

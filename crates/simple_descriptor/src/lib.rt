@@ -1,4 +1,6 @@
 // The simple descriptor as it is read (2.3.2.5).
+#![tactic(auto)]
+
 pub mod descriptor;
 
 ghost use Rattle.std.specs.Prelude.{◌≡◌, ◌≤◌, length};
@@ -9,7 +11,7 @@ use byte::{nibble, read_u8, read_u16};
 use zigbee_types::{ClusterLists, ClusterListsRead, Places, Refusal};
 
 // A simple descriptor's fields, its two cluster lists as places in the bytes that it was read from.
-#[derive(Drop)]
+#[derive(Clone, Copy)]
 pub struct SimpleDescriptorFields {
     pub endpoint: u8,
     pub profile_id: u16,
@@ -20,7 +22,7 @@ pub struct SimpleDescriptorFields {
 }
 
 // A simple descriptor that was read, or why none was.
-#[derive(Drop)]
+#[derive(Clone, Copy)]
 pub enum SimpleDescriptorRead {
     Descriptor(SimpleDescriptorFields),
     Refused(Refusal),

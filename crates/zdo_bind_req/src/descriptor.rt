@@ -10,7 +10,7 @@ use zdo_requests::descriptor::{BindReq, BindReqDestination, BindReqRead};
 use zigbee_types::{GroupAddress, IeeeAddress, Refusal};
 
 // The destination of a bind request, or why there is none.
-#[derive(Drop)]
+#[derive(Clone, Copy)]
 enum DestinationRead {
     Destination(BindReqDestination),
     Refused(Refusal),

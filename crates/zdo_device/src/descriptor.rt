@@ -12,7 +12,7 @@ const RECORDS: usize = 32;
 const CLUSTERS: usize = 512;
 
 // One application endpoint exposed by this device (2.3.2.5). Its clusters are a start and a count in each of two lent pools.
-#[derive(Drop)]
+#[derive(Clone, Copy)]
 pub struct EndpointDescriptor {
     pub endpoint: u8,
     pub device_version: u8,
@@ -46,7 +46,7 @@ impl EndpointDescriptor {
 }
 
 // The descriptors this device advertises: of the records the first `endpoint_count` are in use. The pools are lent beside it.
-#[derive(Drop)]
+#[derive(Clone, Copy)]
 pub struct DeviceDescriptorConfig {
     pub node: NodeDescriptorConfig,
     pub power: PowerDescriptorConfig,
@@ -55,7 +55,7 @@ pub struct DeviceDescriptorConfig {
 }
 
 // The record of an endpoint, or none.
-#[derive(Drop)]
+#[derive(Clone, Copy)]
 pub enum OptionEndpoint {
     Some(EndpointDescriptor),
     None,
@@ -131,7 +131,7 @@ impl DeviceDescriptorConfig {
 }
 
 // One of the two pools.
-#[derive(Drop)]
+#[derive(Clone, Copy)]
 pub enum Side {
     Input,
     Output,

@@ -1,2 +1,4 @@
 // The device's tables: its endpoint records, and the pools that they point into.
+#![tactic(auto)]
+
 pub mod descriptor;

@@ -31,7 +31,7 @@ use zigbee_types::{IeeeAddress, Refusal, ShortAddress, Written};
 
 // What a request came to: a reply that was written, by its cluster and length; a leave, which is handed to the host; or why it was
 // refused.
-#[derive(Drop)]
+#[derive(Clone, Copy)]
 pub enum Response {
     Reply { cluster: u16, length: usize },
     Leave(MgmtLeaveReq),
@@ -39,7 +39,7 @@ pub enum Response {
 }
 
 // The binding table after a request, and what the request came to.
-#[derive(Drop)]
+#[derive(Clone, Copy)]
 pub struct Responded {
     pub table: BindingTable,
     pub response: Response,
@@ -65,7 +65,7 @@ fn told(cluster: u16, written: Written) -> Response
 // ---- bind and unbind
 
 // What a request does with the entry that it names.
-#[derive(Drop)]
+#[derive(Clone, Copy)]
 enum Link {
     Bind,
     Unbind,
@@ -111,7 +111,7 @@ fn link_rsp(seq: u8, status: LinkStatus, out: &mut [u8]) -> Written
 }
 
 // What a request comes to without the binding table: an answer, or an entry that is still to be bound or unbound.
-#[derive(Drop)]
+#[derive(Clone, Copy)]
 enum Taken {
     Answered(Response),
     Asks { link: Link, request: BindReq },

@@ -16,13 +16,13 @@ use zigbee_types::{Places, Refusal};
 
 // An Active_EP_rsp (2.4.4.2.6), and a Match_Desc_rsp (2.4.4.2.7) of status SUCCESS: its endpoints are the list. A Simple_Desc_rsp
 // (2.4.4.2.5) has the same form: its descriptor is the list, of bytes.
-#[derive(Drop)]
+#[derive(Clone, Copy)]
 pub struct ListReply {
     pub header: ReplyHeader,
     pub list: Places,
 }
 
-#[derive(Drop)]
+#[derive(Clone, Copy)]
 pub enum ListReplyRead {
     Reply(ListReply),
     Refused(Refusal),
@@ -61,13 +61,13 @@ impl ListReply {
 // ---- match
 
 // A Match_Desc_rsp (2.4.4.2.7): with SUCCESS its list; with another status the sequence number and that status alone.
-#[derive(Drop)]
+#[derive(Clone, Copy)]
 pub enum MatchReply {
     Matched(ListReply),
     Failed(StatusReply),
 }
 
-#[derive(Drop)]
+#[derive(Clone, Copy)]
 pub enum MatchReplyRead {
     Reply(MatchReply),
     Refused(Refusal),
@@ -107,19 +107,19 @@ impl MatchReply {
 // ---- simple
 
 // A Simple_Desc_rsp (2.4.4.2.5).
-#[derive(Drop)]
+#[derive(Clone, Copy)]
 pub struct SimpleReply {
     pub header: ReplyHeader,
     pub descriptor: OptionSimpleDescriptor,
 }
 
-#[derive(Drop)]
+#[derive(Clone, Copy)]
 pub enum OptionSimpleDescriptor {
     Some(SimpleDescriptorFields),
     None,
 }
 
-#[derive(Drop)]
+#[derive(Clone, Copy)]
 pub enum SimpleReplyRead {
     Reply(SimpleReply),
     Refused(Refusal),

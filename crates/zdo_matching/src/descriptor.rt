@@ -15,13 +15,13 @@ use zigbee_types::{Places, Refusal};
 const WILDCARD_PROFILE_ID: u16 = 0xFFFF;
 
 // What matching found: how many endpoint numbers were written.
-#[derive(Drop)]
+#[derive(Clone, Copy)]
 pub struct Matched {
     pub written: usize,
 }
 
 // What matching found, or why it was refused.
-#[derive(Drop)]
+#[derive(Clone, Copy)]
 pub enum Matching {
     Matched(Matched),
     Refused(Refusal),

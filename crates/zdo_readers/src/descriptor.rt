@@ -8,7 +8,7 @@ use zdo_replies::descriptor::STATUS_SUCCESS;
 use zigbee_types::{Refusal, ShortAddress};
 
 // A parsed Node_Desc_rsp (2.4.4.2.3).
-#[derive(Drop)]
+#[derive(Clone, Copy)]
 pub struct NodeDescRsp {
     // ZDP transaction sequence number of the request being answered.
     pub seq: u8,
@@ -19,21 +19,21 @@ pub struct NodeDescRsp {
 }
 
 // A server mask, or none.
-#[derive(Drop)]
+#[derive(Clone, Copy)]
 pub enum OptionServerMask {
     Some(u16),
     None,
 }
 
 // A stack revision, or none.
-#[derive(Drop)]
+#[derive(Clone, Copy)]
 pub enum OptionStackRevision {
     Some(u8),
     None,
 }
 
 // What `parse_node_desc_rsp` answers: the reply, or why there is none.
-#[derive(Drop)]
+#[derive(Clone, Copy)]
 pub enum NodeDescRspRead {
     Reply(NodeDescRsp),
     Refused(Refusal),

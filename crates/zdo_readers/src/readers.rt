@@ -15,14 +15,14 @@ use zigbee_types::{IeeeAddress, Places, Refusal, ShortAddress};
 
 // ---- what most replies begin with
 
-#[derive(Drop)]
+#[derive(Clone, Copy)]
 pub struct ReplyHeader {
     pub seq: u8,
     pub status: u8,
     pub nwk_addr_of_interest: ShortAddress,
 }
 
-#[derive(Drop)]
+#[derive(Clone, Copy)]
 pub enum ReplyHeaderRead {
     Header(ReplyHeader),
     Refused(Refusal),
@@ -50,19 +50,19 @@ impl ReplyHeader {
 // ---- node
 
 // A Node_Desc_rsp (2.4.4.2.3).
-#[derive(Drop)]
+#[derive(Clone, Copy)]
 pub struct NodeReply {
     pub header: ReplyHeader,
     pub descriptor: OptionNodeDescriptor,
 }
 
-#[derive(Drop)]
+#[derive(Clone, Copy)]
 pub enum OptionNodeDescriptor {
     Some(NodeDescriptor),
     None,
 }
 
-#[derive(Drop)]
+#[derive(Clone, Copy)]
 pub enum NodeReplyRead {
     Reply(NodeReply),
     Refused(Refusal),
@@ -103,19 +103,19 @@ impl NodeReply {
 // ---- power
 
 // A Power_Desc_rsp (2.4.4.2.4).
-#[derive(Drop)]
+#[derive(Clone, Copy)]
 pub struct PowerReply {
     pub header: ReplyHeader,
     pub descriptor: OptionPowerDescriptor,
 }
 
-#[derive(Drop)]
+#[derive(Clone, Copy)]
 pub enum OptionPowerDescriptor {
     Some(NodePowerDescriptor),
     None,
 }
 
-#[derive(Drop)]
+#[derive(Clone, Copy)]
 pub enum PowerReplyRead {
     Reply(PowerReply),
     Refused(Refusal),
@@ -156,7 +156,7 @@ impl PowerReply {
 // ---- addresses
 
 // A NWK_addr_rsp or IEEE_addr_rsp (2.4.4.2.1, 2.4.4.2.2).
-#[derive(Drop)]
+#[derive(Clone, Copy)]
 pub struct AddrReply {
     pub seq: u8,
     pub status: u8,
@@ -167,20 +167,20 @@ pub struct AddrReply {
 
 // What an extended address reply adds: how many devices are associated, the index asked for, and where short addresses stand, two bytes
 // each. How many of these there are is told by the reply's end, and not by the first number.
-#[derive(Drop)]
+#[derive(Clone, Copy)]
 pub struct Associated {
     pub num_assoc_dev: u8,
     pub start_index: u8,
     pub devices: Places,
 }
 
-#[derive(Drop)]
+#[derive(Clone, Copy)]
 pub enum OptionAssociated {
     Some(Associated),
     None,
 }
 
-#[derive(Drop)]
+#[derive(Clone, Copy)]
 pub enum AddrReplyRead {
     Reply(AddrReply),
     Refused(Refusal),
@@ -235,13 +235,13 @@ fn read_associated(reply: &[u8], status: u8) -> OptionAssociated
 // ---- bind, unbind and leave
 
 // A Bind_rsp, Unbind_rsp or Mgmt_Leave_rsp (2.4.4.3.2, 2.4.4.3.3, 2.4.4.4.5).
-#[derive(Drop)]
+#[derive(Clone, Copy)]
 pub struct StatusReply {
     pub seq: u8,
     pub status: u8,
 }
 
-#[derive(Drop)]
+#[derive(Clone, Copy)]
 pub enum StatusReplyRead {
     Reply(StatusReply),
     Refused(Refusal),

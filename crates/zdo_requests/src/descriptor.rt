@@ -58,7 +58,7 @@ pub const ADDR_REQUEST_SINGLE: u8 = 0x00;
 pub const ADDR_REQUEST_EXTENDED: u8 = 0x01;
 
 // A parsed NWK_addr_req (2.4.3.1.1).
-#[derive(Drop)]
+#[derive(Clone, Copy)]
 pub struct NwkAddrReq {
     // ZDP transaction sequence number to echo in the response.
     pub seq: u8,
@@ -68,7 +68,7 @@ pub struct NwkAddrReq {
 }
 
 // A parsed IEEE_addr_req (2.4.3.1.2).
-#[derive(Drop)]
+#[derive(Clone, Copy)]
 pub struct IeeeAddrReq {
     pub seq: u8,
     // The address the responder must match against its own.
@@ -78,14 +78,14 @@ pub struct IeeeAddrReq {
 
 // A parsed Node_Desc_req, Power_Desc_req or Active_EP_req (2.4.3.1.3, 2.4.3.1.4, 2.4.3.1.6). (The Rust reads the address
 // alone.)
-#[derive(Drop)]
+#[derive(Clone, Copy)]
 pub struct AddrOfInterestReq {
     pub seq: u8,
     pub nwk_addr_of_interest: ShortAddress,
 }
 
 // A parsed Simple_Desc_req (2.4.3.1.5). (Added: the Rust reads the address alone.)
-#[derive(Drop)]
+#[derive(Clone, Copy)]
 pub struct SimpleDescReq {
     pub seq: u8,
     pub nwk_addr_of_interest: ShortAddress,
@@ -93,7 +93,7 @@ pub struct SimpleDescReq {
 }
 
 // A parsed Match_Desc_req (2.4.3.1.7), its two lists as places in the payload.
-#[derive(Drop)]
+#[derive(Clone, Copy)]
 pub struct MatchDescReq {
     pub seq: u8,
     pub nwk_addr_of_interest: ShortAddress,
@@ -103,7 +103,7 @@ pub struct MatchDescReq {
 }
 
 // A parsed Bind_req or Unbind_req (2.4.3.2.2, 2.4.3.2.3).
-#[derive(Drop)]
+#[derive(Clone, Copy)]
 pub struct BindReq {
     pub seq: u8,
     // Device the binding applies to; must be this device.
@@ -114,7 +114,7 @@ pub struct BindReq {
 }
 
 // Destination of a Bind_req, by addressing mode (2.4.3.2.2).
-#[derive(Drop)]
+#[derive(Clone, Copy)]
 pub enum BindReqDestination {
     Group(GroupAddress),
     Device { ieee: IeeeAddress, endpoint: u8 },
@@ -138,7 +138,7 @@ impl BindReq {
 }
 
 // A parsed Mgmt_Leave_req (2.4.3.3.5).
-#[derive(Drop)]
+#[derive(Clone, Copy)]
 pub struct MgmtLeaveReq {
     pub seq: u8,
     // Device to remove; `None` for the NULL address, which targets the recipient itself.
@@ -148,7 +148,7 @@ pub struct MgmtLeaveReq {
 }
 
 // An IEEE address, or none.
-#[derive(Drop)]
+#[derive(Clone, Copy)]
 pub enum OptionIeeeAddress {
     Some(IeeeAddress),
     None,
@@ -156,50 +156,50 @@ pub enum OptionIeeeAddress {
 
 // ---- what a parser answers: the request, or why there is none
 
-#[derive(Drop)]
+#[derive(Clone, Copy)]
 pub enum NwkAddrReqRead {
     Request(NwkAddrReq),
     Refused(Refusal),
 }
 
-#[derive(Drop)]
+#[derive(Clone, Copy)]
 pub enum IeeeAddrReqRead {
     Request(IeeeAddrReq),
     Refused(Refusal),
 }
 
-#[derive(Drop)]
+#[derive(Clone, Copy)]
 pub enum AddrOfInterestReqRead {
     Request(AddrOfInterestReq),
     Refused(Refusal),
 }
 
 // The address that a request is about, or why there is none.
-#[derive(Drop)]
+#[derive(Clone, Copy)]
 pub enum AddrOfInterestRead {
     Address(ShortAddress),
     Refused(Refusal),
 }
 
-#[derive(Drop)]
+#[derive(Clone, Copy)]
 pub enum SimpleDescReqRead {
     Request(SimpleDescReq),
     Refused(Refusal),
 }
 
-#[derive(Drop)]
+#[derive(Clone, Copy)]
 pub enum MatchDescReqRead {
     Request(MatchDescReq),
     Refused(Refusal),
 }
 
-#[derive(Drop)]
+#[derive(Clone, Copy)]
 pub enum BindReqRead {
     Request(BindReq),
     Refused(Refusal),
 }
 
-#[derive(Drop)]
+#[derive(Clone, Copy)]
 pub enum MgmtLeaveReqRead {
     Request(MgmtLeaveReq),
     Refused(Refusal),

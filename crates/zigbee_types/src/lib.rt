@@ -1,50 +1,52 @@
 // What every layer shares: addresses, the places of lists, what a writer answers, and refusals. (The Rust's crate of this name is
 // not shown. Of what stands here its users write `IeeeAddress`; the other names are added.)
+#![tactic(auto)]
+
 ghost use Rattle.std.specs.Prelude.{◌≡◌};
 ghost use Rattle.zigbee_types.specs.Refusals.{refusal_number};
 
 // A 64-bit extended address.
-#[derive(Drop)]
+#[derive(Clone, Copy)]
 pub struct IeeeAddress(pub u64);
 
 // A 16-bit network address.
-#[derive(Drop)]
+#[derive(Clone, Copy)]
 pub struct ShortAddress(pub u16);
 
 // A 16-bit group address.
-#[derive(Drop)]
+#[derive(Clone, Copy)]
 pub struct GroupAddress(pub u16);
 
 // Where a list stands in a payload: its first byte, and how many entries it has.
-#[derive(Drop)]
+#[derive(Clone, Copy)]
 pub struct Places {
     pub start: usize,
     pub count: usize,
 }
 
 // Two lists of clusters, the second behind the first, as places in the bytes that they stand in.
-#[derive(Drop)]
+#[derive(Clone, Copy)]
 pub struct ClusterLists {
     pub input_clusters: Places,
     pub output_clusters: Places,
 }
 
 // Two lists of clusters that were read, or why none were.
-#[derive(Drop)]
+#[derive(Clone, Copy)]
 pub enum ClusterListsRead {
     Lists(ClusterLists),
     Refused(Refusal),
 }
 
 // How many bytes were written, or why none were.
-#[derive(Drop)]
+#[derive(Clone, Copy)]
 pub enum Written {
     Length(usize),
     Refused(Refusal),
 }
 
 // Why a call was refused (document 01, "Refusal numbers").
-#[derive(Drop)]
+#[derive(Clone, Copy)]
 pub enum Refusal {
     BadTables,
     UnknownCluster,
