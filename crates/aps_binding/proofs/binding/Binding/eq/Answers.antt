@@ -1,12 +1,9 @@
 -- `Binding::eq` meets its contract: its six tests are those of two keys. Assumes nothing.
+use Rattle.std.proofs.Common.{rules}
 use mathlib.Core.Bool.{and_assoc, and-true}
 use Rattle.aps_binding.specs.Entry.{key, alike, same}
-use Rattle.aps_binding.proofs.binding.Binding.eq.Statement.{statement}
-use Rattle.aps_binding.proofs.binding.Binding.eq.Tie as tie
+use Rattle.aps_binding.proofs.binding.Binding.eq.Goals as goal
 
-returns : tie.Need-returns
+pub returns : goal.returns
 unfolding same key alike
 returns c = simp (and_assoc, and-true)
-
-pub eq_spec : {M : Type 1} → statement M
-eq_spec = tie.close (tie.spec returns)
