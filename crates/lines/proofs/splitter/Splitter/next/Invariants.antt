@@ -7,7 +7,7 @@ use Rattle.lines.specs.Splitter.{pending}
 use Rattle.lines.proofs.Taken.{Going, going_first, going_next, going_found, going_end}
 
 abbrev pub invariant-loop-at : goal.invariant-loop-at
-invariant-loop-at l = Going (pending l.initial.count l.initial.line) l.chunk l.initial.at l.at' (pending l.count l.line)
+invariant-loop-at l = Going (pending l.initial.count l.initial.line) l.chunk l.initial.at l.at (pending l.count l.line)
 
 abbrev pub decreases-loop-at : goal.decreases-loop-at
-decreases-loop-at l = length l.chunk - l.at'
+decreases-loop-at l = length l.chunk - l.at
