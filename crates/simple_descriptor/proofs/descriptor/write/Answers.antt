@@ -1,0 +1,17 @@
+-- `descriptor::write` meets its contract: the clusters are counted, then the room, then the fields put. Assumes nothing.
+use native.Mathlib.Omega.{arith}
+use borrow.Author.Rules.{rules}
+use Rattle.simple_descriptor.proofs.Written.{clusters_moved, simple_many, simple_full, front_put, simple_writes}
+use Rattle.simple_descriptor.proofs.descriptor.write.Goals as goal
+
+pub returns-then-count-gt-CLUSTERS : goal.returns-then-count-gt-CLUSTERS
+returns-then-count-gt-CLUSTERS c = search rules
+
+pub returns-then-out-count : goal.returns-then-out-count
+returns-then-out-count c = search rules
+
+pub write_clusters-at-requires-2 : goal.write_clusters-at-requires-2
+write_clusters-at-requires-2 c = search rules
+
+pub returns : goal.returns
+returns c = simple_full _ _ (omega arith) (omega arith)

@@ -1,0 +1,15 @@
+-- `parse_match_desc_req` meets its contract: three fields are read, then the lists behind them. Assumes nothing.
+use borrow.Author.Rules.{rules}
+use Rattle.zdo_match_req.proofs.Parsed.{match_short, match_read_lem, match_refused}
+use Rattle.zdo_match_req.proofs.descriptor.parse_match_desc_req.Goals as goal
+
+ruleset laws = (rules, match_short, match_read_lem, match_refused)
+
+pub returns-then-asdu-lt5 : goal.returns-then-asdu-lt5
+returns-then-asdu-lt5 c = search laws
+
+pub returns-in-Lists : goal.returns-in-Lists
+returns-in-Lists c = search laws
+
+pub returns-in-Refused : goal.returns-in-Refused
+returns-in-Refused c = search laws
