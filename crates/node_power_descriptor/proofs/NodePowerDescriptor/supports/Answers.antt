@@ -4,4 +4,4 @@ use Rattle.node_power_descriptor.proofs.Common.{supports_told}
 use Rattle.node_power_descriptor.proofs.NodePowerDescriptor.supports.Goals as goal
 
 pub returns : goal.returns
-returns c = search rules
+returns c = search supports_told

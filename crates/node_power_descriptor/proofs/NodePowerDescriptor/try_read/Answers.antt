@@ -6,6 +6,9 @@ use Rattle.node_power_descriptor.proofs.NodePowerDescriptor.try_read.Goals as go
 
 ruleset laws = (rules, power_refused, power_read_lem)
 
+pub returns-then-bytes-lt-NODE_POWER_DESCRIPTOR_SIZE : goal.returns-then-bytes-lt-NODE_POWER_DESCRIPTOR_SIZE
+returns-then-bytes-lt-NODE_POWER_DESCRIPTOR_SIZE c = power_short _ (omega arith)
+
 pub returns-then-not-is_usable : goal.returns-then-not-is_usable
 returns-then-not-is_usable c = search laws
 

@@ -7,15 +7,21 @@ use Rattle.zigbee_types.proofs.Runs.{run_put_none, run_put_more, run_put_told, r
 use Rattle.node_descriptor.specs.NodeDescriptor.{node_descriptor_of}
 use Rattle.node_descriptor.proofs.descriptor.NodeDescriptorConfig.write.Goals as goal
 
--- from the last field's place back to that of the first, which lies too far for a search
-abbrev first : tie.After-write-u8-arg5 → tie.After-write-u8
-first c =
-    c.before.before.before.before.before.before.before.before.before.before.before.before.before.before.before.before.before.before.before.before.before.before.before.before.before.before.before.before.before.before.before.before
-
 pub returns-then-out-lt-NODE_DESCRIPTOR_SIZE : goal.returns-then-out-lt-NODE_DESCRIPTOR_SIZE
 unfolding written_says size node_descriptor_of
 returns-then-out-lt-NODE_DESCRIPTOR_SIZE c = search (rules, run_full)
 
 pub returns : goal.returns
 unfolding written_says size node_descriptor_of
-returns c = search (rules, run_full)
+returns c =
+    run_writes
+    (run_put_told c.write_u8-at.ensures c.byte0.ensures
+    (run_put_told c.write_u8-at-2.ensures c.byte1.ensures
+    (run_put_more c.write_u8-at-3.ensures
+    (run_put_more c.write_u16-at.ensures
+    (run_put_more c.write_u8-at-4.ensures
+    (run_put_more c.write_u16-at-2.ensures
+    (run_put_more c.write_u16-at-3.ensures
+    (run_put_more c.write_u16-at-4.ensures
+    (run_put_more c.write_u8-at-5.ensures run_put_none)))))))))
+    c.if-out-lt-NODE_DESCRIPTOR_SIZE.false

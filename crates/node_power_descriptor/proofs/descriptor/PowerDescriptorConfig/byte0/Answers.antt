@@ -4,4 +4,4 @@ use Rattle.node_power_descriptor.proofs.Bits.{byte0_joined}
 use Rattle.node_power_descriptor.proofs.descriptor.PowerDescriptorConfig.byte0.Goals as goal
 
 pub returns : goal.returns
-returns c = search rules
+returns c = search byte0_joined

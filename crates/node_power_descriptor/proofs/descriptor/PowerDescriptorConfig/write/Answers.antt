@@ -6,5 +6,8 @@ use Rattle.node_power_descriptor.proofs.descriptor.PowerDescriptorConfig.write.G
 
 ruleset laws = (rules, power_written)
 
+pub returns-then-out-lt-NODE_POWER_DESCRIPTOR_SIZE : goal.returns-then-out-lt-NODE_POWER_DESCRIPTOR_SIZE
+returns-then-out-lt-NODE_POWER_DESCRIPTOR_SIZE c = power_full _ _ (omega arith)
+
 pub returns : goal.returns
 returns c = search laws
