@@ -6,18 +6,18 @@ use Rattle.zigbee_types.specs.Layout.{laid, size}
 use Rattle.zigbee_types.proofs.Runs.{run_full}
 use Rattle.zdo_replies.specs.Replies.{header, empty_rsp}
 use Rattle.zdo_desc_rsp.proofs.Written.{empty_writes}
-use Rattle.zdo_desc_rsp.proofs.descriptor.empty_rsp.Statement.{statement}
-use Rattle.zdo_desc_rsp.proofs.descriptor.empty_rsp.Tie as tie
+use Rattle.zdo_desc_rsp.proofs.descriptor.empty_rsp.Goals as goal
 
 ruleset laws = (rules, run_full, empty_writes)
 
-pub empty_rsp_spec : {M : Type 1} → statement M
+pub returns-then-out-lt5 : goal.returns-then-out-lt5
 unfolding written_says size laid le header empty_rsp
-empty_rsp_spec =
-    tie.close
-    (tie.spec
-    (λ c. search laws)  -- returns
-    (λ c κs. search laws)  -- write-header-requires
-    (λ c κs. search laws)  -- write-u8-requires
-    (λ c. search laws)  -- same-length
-    (λ c. search laws))  -- returns-2
+returns-then-out-lt5 c = search laws
+
+pub write_u8-at-requires : goal.write_u8-at-requires
+unfolding written_says size laid le header empty_rsp
+write_u8-at-requires c = search laws
+
+pub returns : goal.returns
+unfolding written_says size laid le header empty_rsp
+returns c = search laws

@@ -5,17 +5,14 @@ use Rattle.zigbee_types.specs.Layout.{size}
 use Rattle.zigbee_types.proofs.Runs.{run_full}
 use Rattle.zdo_replies.specs.Replies.{addr_header, addr_rsp_single}
 use Rattle.zdo_addr_rsp.proofs.Written.{single_writes}
-use Rattle.zdo_addr_rsp.proofs.descriptor.addr_rsp_single.Statement.{statement}
-use Rattle.zdo_addr_rsp.proofs.descriptor.addr_rsp_single.Tie as tie
+use Rattle.zdo_addr_rsp.proofs.descriptor.addr_rsp_single.Goals as goal
 
 ruleset laws = (rules, run_full, single_writes)
 
-pub addr_rsp_single_spec : {M : Type 1} → statement M
+pub returns-then-out-lt12 : goal.returns-then-out-lt12
 unfolding written_says size addr_header addr_rsp_single
-addr_rsp_single_spec =
-    tie.close
-    (tie.spec
-    (λ c. search laws)  -- returns
-    (λ c κs. search laws)  -- write-addr-header-requires
-    (λ c. search laws)  -- same-length
-    (λ c. search laws))  -- returns-2
+returns-then-out-lt12 c = search laws
+
+pub returns : goal.returns
+unfolding written_says size addr_header addr_rsp_single
+returns c = search laws

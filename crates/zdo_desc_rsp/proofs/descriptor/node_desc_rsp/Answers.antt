@@ -1,0 +1,30 @@
+-- `node_desc_rsp` meets its contract: the header is put, and the descriptor in the part behind it. Assumes nothing.
+use native.Mathlib.Omega.{arith}
+use borrow.Author.Rules.{rules}
+use Rattle.zigbee_types.specs.Layout.{size}
+use Rattle.node_descriptor.specs.NodeDescriptor.{node_descriptor_of}
+use Rattle.zdo_replies.specs.Replies.{node_desc_rsp}
+use Rattle.zdo_desc_rsp.proofs.Written.{header_place, described_full, described_told, described_writes}
+use Rattle.zdo_desc_rsp.proofs.descriptor.node_desc_rsp.Goals as goal
+
+pub returns-then-out-lt17 : goal.returns-then-out-lt17
+unfolding size node_descriptor_of node_desc_rsp
+returns-then-out-lt17 c = described_full _ _ _ _ (omega arith)
+
+pub slice_bounds-write-count : goal.slice_bounds-write-count
+unfolding size node_descriptor_of node_desc_rsp
+slice_bounds-write-count c = search rules
+
+pub slice_bounds-write-start : goal.slice_bounds-write-start
+unfolding size node_descriptor_of node_desc_rsp
+slice_bounds-write-start c = search rules
+
+pub whole-requires : goal.whole-requires
+unfolding size node_descriptor_of
+whole-requires c = let lent = c.before.before in
+    let front = lent.before.before.before.before in
+    described_told _ _ (header_place _ _ _ front.write-header.ensures) lent.write.ensures tt
+
+pub returns : goal.returns
+unfolding size node_descriptor_of node_desc_rsp
+returns c = search (rules, header_place, described_writes)
