@@ -13,17 +13,15 @@ returns-then-out-lt6 c = described_full _ _ _ _ (omega arith)
 
 pub slice_bounds-write-count : goal.slice_bounds-write-count
 unfolding size power_descriptor_of power_desc_rsp
-slice_bounds-write-count c = search rules
+slice_bounds-write-count c = let at = header_place _ _ _ c.write_header-at.ensures in search rules
 
 pub slice_bounds-write-start : goal.slice_bounds-write-start
 unfolding size power_descriptor_of power_desc_rsp
-slice_bounds-write-start c = search rules
+slice_bounds-write-start c = let at = header_place _ _ _ c.write_header-at.ensures in search rules
 
 pub whole-requires : goal.whole-requires
 unfolding size power_descriptor_of
-whole-requires c = let lent = c.before.before in
-    let front = lent.before.before.before.before in
-    described_told _ _ (header_place _ _ _ front.write-header.ensures) lent.write.ensures tt
+whole-requires c = described_told _ _ (header_place _ _ _ c.write_header-at.ensures) c.write-written.ensures tt
 
 pub returns : goal.returns
 unfolding size power_descriptor_of power_desc_rsp

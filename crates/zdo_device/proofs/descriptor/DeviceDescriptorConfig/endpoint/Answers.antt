@@ -15,7 +15,7 @@ pub returns-then-ep-endpoint : goal.returns-then-ep-endpoint
 returns-then-ep-endpoint c = search laws
 
 pub loop-i-preserved : goal.loop-i-preserved
-loop-i-preserved c = sought_next c.loop-i.invariant _ (search rules) c.if1.false
+loop-i-preserved c = sought_next c.loop-i.invariant _ (search rules) c.if-ep-endpoint.false
 
 pub returns : goal.returns
 returns c = search laws

@@ -5,4 +5,4 @@ use Rattle.zdo_device.proofs.descriptor.EndpointDescriptor.fits.Goals as goal
 
 pub returns : goal.returns
 unfolding record_fits
-returns c = rw (← c.end-of2.ensures.0, ← c.before.end_of_lem.ensures.0)
+returns c = rw (← c.end_of.ensures.0, ← c.end_of-2.ensures.0)
