@@ -1,0 +1,16 @@
+-- `matching_endpoints` meets its contract, at each of its ways out. Assumes nothing.
+use borrow.Author.Rules.{rules}
+use Rattle.zigbee_types.proofs.Scans.{said_yes}
+use Rattle.zdo_matching.proofs.Found.{refused_tables, refused_places, found_matched}
+use Rattle.zdo_matching.proofs.descriptor.matching_endpoints.Goals as goal
+
+ruleset laws = (rules, said_yes, refused_tables, refused_places, found_matched)
+
+pub returns-then-not-good_tables : goal.returns-then-not-good_tables
+returns-then-not-good_tables c = search laws
+
+pub returns-then-not-good_places : goal.returns-then-not-good_places
+returns-then-not-good_places c = search laws
+
+pub returns : goal.returns
+returns c = search laws
