@@ -1,9 +1,7 @@
 -- `are_digits` meets its contract. The loop's invariant: the first i characters are digits. The measure is how many are left.
 -- Assumes nothing.
-use Prim.Native.Nat.{◌-◌}
-use lib.ListN.{length}
 use borrow.Author.Rules.{rules}
-use Rattle.hex_lines.proofs.Digits.{Scanned, scanned_first, scanned_end, scanned_next, scanned_here}
+use Rattle.hex_lines.proofs.Digits.{scanned_first, scanned_end, scanned_next, scanned_here}
 use Rattle.hex_lines.proofs.are_digits.Goals as goal
 
 ruleset laws = (rules, scanned_first, scanned_end, scanned_next, scanned_here)

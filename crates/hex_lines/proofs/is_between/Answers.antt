@@ -1,5 +1,4 @@
 -- `is_between` meets its contract: each test is one of the two. Assumes nothing.
-use Rattle.std.proofs.Common.{rules}
 use mathlib.Core.Path.{refl}
 use Rattle.hex_lines.specs.Hex.{between}
 use Rattle.hex_lines.proofs.is_between.Goals as goal

@@ -20,3 +20,9 @@ returns-then-payload-digits c = search laws
 
 pub returns : goal.returns
 returns c = search laws
+
+pub put_payload-length-requires-clause-digits_value : goal.put_payload-length-requires-clause-digits_value
+put_payload-length-requires-clause-digits_value c = search laws
+
+pub put_payload-length-requires-clause-digits_in_bounds : goal.put_payload-length-requires-clause-digits_in_bounds
+put_payload-length-requires-clause-digits_in_bounds c = search laws

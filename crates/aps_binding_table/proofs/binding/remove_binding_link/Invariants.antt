@@ -1,14 +1,9 @@
 -- `remove_binding_link` meets its contract, at each of its ends. The invariant of the search: the first entries, up to the index, were
 -- passed by; of the move: behind the index, the entries moved down by one, up to i. Each measure is how many are left. Assumes nothing.
-use Rattle.std.proofs.Common.{◌-◌, ◌≡◌, ℕ, ◌+◌, ◌*◌, ◌<◌, ◌≤◌, length}
-use Rattle.aps_binding_table.specs.Table.{empty_table, good_sizes, create_binding_link, remove_binding_link, Leaves}
-use Rattle.aps_binding_table.specs.Answers.{link_says}
+use Rattle.std.proofs.Common.{◌-◌}
 use Rattle.aps_binding_table.proofs.binding.remove_binding_link.Given as goal
-use mathlib.Core.Logic.{⊎_elim}
-use Rattle.zigbee_types.proofs.Elements.{length_mapped}
-use Rattle.aps_binding_table.proofs.Links.{tested_good, remove_refused, remove_none, remove_found}
-use Rattle.aps_binding_table.proofs.Search.{Passed, passed_first, passed_here, passed_next, passed_end}
-use Rattle.aps_binding_table.proofs.Shift.{Shifted, shifted_first, shifted_next, shifted_end}
+use Rattle.aps_binding_table.proofs.Search.{Passed}
+use Rattle.aps_binding_table.proofs.Shift.{Shifted}
 
 abbrev pub invariant-loop-index : goal.invariant-loop-index
 invariant-loop-index l = Passed l.binding l.table l.index
