@@ -146,15 +146,6 @@ pub begun_refused : (n : ℕ) (before : List ℕ) → Begun (refusal n) before (
 unfolding begun_length begun mapped
 begun_refused n before = record { said = refl; left = refl }
 
--- a count above 32 is one of the ways in which tables are not good
-matching_checked : (p : Pools) (d : DeviceDescriptorConfig) (q : MatchDescReq) (payload : List ℕ) → matching_endpoints p d q payload ≡ cond (good_device p d) (matched_in p (used d) q payload) (refusal 1)
-unfolding matching_endpoints matched_records good_device
-matching_checked p d q payload = go (leb d.endpoint_count 32)
-  where
-    go : (few : Bool) → cond few (cond (good_records p (used d)) (matched_in p (used d) q payload) (refusal 1)) (refusal 1) ≡ cond (few && good_records p (used d)) (matched_in p (used d) q payload) (refusal 1)
-    go true = refl
-    go false = refl
-
 module _
     (p : Pools)
     (d : DeviceDescriptorConfig)
@@ -164,14 +155,14 @@ module _
     (is : t ≡ good_device p d) where
   -- refusal 1
   pub refused_tables : not t ≡ true → Begun (matching_endpoints p d q payload) before (matching_says (matching.Refused BadTables)) before
-  unfolding matching_says
-  refused_tables bad = rw (matching_checked p d q payload, said_no is bad) (begun_refused 1 before)
+  unfolding matching_says matching_endpoints
+  refused_tables bad = rw (said_no is bad) (begun_refused 1 before)
 
   module _ (fine : not t ≡ false) {u : Bool} (places : u ≡ good_places q payload) where
     -- refusal 3
     pub refused_places : not u ≡ true → Begun (matching_endpoints p d q payload) before (matching_says (matching.Refused Malformed)) before
-    unfolding matching_says matched_in
-    refused_places bad = rw (matching_checked p d q payload, said_yes is fine, said_no places bad) (begun_refused 3 before)
+    unfolding matching_says matching_endpoints matched_in
+    refused_places bad = rw (said_yes is fine, said_no places bad) (begun_refused 3 before)
 
     -- otherwise what is found
     pub found_matched :
@@ -179,5 +170,5 @@ module _
         → (m : Matched) {after : List ℕ}
         → Begun (answer (match_list (wanted q payload) (resolved_in p (used d)))) before (answer m.written) after
         → Begun (matching_endpoints p d q payload) before (matching_says (matching.Matched m)) after
-    unfolding matching_says matched_in
-    found_matched good m h = rw (matching_checked p d q payload, said_yes is fine, said_yes places good) h
+    unfolding matching_says matching_endpoints matched_in
+    found_matched good m h = rw (said_yes is fine, said_yes places good) h

@@ -21,4 +21,4 @@ append-requires c = search rules
 
 pub returns : goal.returns
 unfolding laid le header
-returns c = list_appended _ _ _ _ c.write-header.ensures c.count-byte.ensures c.write-u8.ensures c.append.ensures (omega arith)
+returns c = list_appended _ _ _ _ c.write_header-at.ensures c.count_byte.ensures c.write_u8-at.ensures c.append.ensures (omega arith)

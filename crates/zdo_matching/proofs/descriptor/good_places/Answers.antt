@@ -5,4 +5,4 @@ use Rattle.zdo_matching.proofs.descriptor.good_places.Goals as goal
 
 pub returns : goal.returns
 unfolding good_places
-returns c = rw (← c.within2.ensures, ← c.before.within.ensures)
+returns c = rw (← c.within.ensures, ← c.within-2.ensures)

@@ -30,11 +30,13 @@ read_u16-cluster-requires c = search laws
 
 pub loop-j-preserved : goal.loop-j-preserved
 unfolding behind
-loop-j-preserved c = search laws
+loop-j-preserved c = (c.loop-j.invariant.0, among_next c.loop-j.invariant.1 (omega arith) c.if-own-j.false)
 
 pub search-preserved : goal.search-preserved
 unfolding behind
-search-preserved c = search laws
+search-preserved c =
+    (c.loop-j.invariant.0,
+    asked_next c.search.invariant.1 (search rules) c.read_u16-cluster.ensures c.loop-j.invariant.1 (omega arith))
 
 pub returns-after-search : goal.returns-after-search
 unfolding behind
