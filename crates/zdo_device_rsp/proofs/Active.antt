@@ -6,7 +6,7 @@ use mathlib.Core.Path.{◌≡◌, refl, sym, ◌∙◌}
 use mathlib.Core.Bool.{Bool, true, false, cond}
 use mathlib.Core.List.{List, [], ◌∷◌, ◌++◌, map, map-append, append_assoc}
 use lib.Dec.{leb}
-use lib.ListN.{length, get_or, take, length-map, length-take}
+use lib.ListN.{length, get_or, take, length-map}
 use lib.Seq.{length-sets, take_all, take-suc, length-take-le}
 use borrow.Author.Tests.{leb-true, leb-false, le-leb, lt-leb}
 use Rattle.zigbee_types.specs.Outcome.{answer, refusal, mapped, fitted, written, Wrote}
@@ -30,7 +30,7 @@ use Rattle.zdo_device.specs.Tables.{used}
 use Rattle.zdo_device.specs.declared.descriptor.EndpointDescriptor.{EndpointDescriptor}
 use Rattle.zdo_device.specs.declared.descriptor.DeviceDescriptorConfig.{DeviceDescriptorConfig}
 use Rattle.zdo_device.proofs.Records.{used_counted, used_at, At, at_first, at_inside, at_next}
-use Rattle.zdo_device_rsp.specs.TableReplies.{numbers, active_rsp_of, active_begun, active_records, active_ep_rsp}
+use Rattle.zdo_device_rsp.specs.TableReplies.{numbers, active_rsp_of, active_begun, active_ep_rsp}
 
 -- ---- what stands before the list
 
@@ -165,17 +165,10 @@ module _ {records : List EndpointDescriptor} {i from at : ℕ} {s t : List ℕ} 
 used_few : (d : DeviceDescriptorConfig) → length d.endpoints ≡ 32 → d.endpoint_count ≤ 32 → length (used d) ≡ d.endpoint_count
 used_few d long few = omega (arith, used_counted d long)
 
--- a count of at most 32 has no more records in use than that
+-- what `active_ep_rsp` is, for lemmas that rewrite by it
 pub active_checked : (seq : ℕ) (a : ShortAddress) (d : DeviceDescriptorConfig) → active_ep_rsp seq a d ≡ cond (leb d.endpoint_count 32) (active_rsp_of seq a (used d)) (refusal 1)
-unfolding active_ep_rsp active_records used
-active_checked seq a d = go (leb d.endpoint_count 32) refl
-  where
-    go : (t : Bool) → leb d.endpoint_count 32 ≡ t → cond t (active_records seq a (used d)) (refusal 1) ≡ cond t (active_rsp_of seq a (used d)) (refusal 1)
-    go true few =
-        let count : d.endpoint_count ≤ 32 = leb-true _ _ few in
-        let short : length (take d.endpoint_count d.endpoints) ≤ 32 = rw length-take (omega arith) in
-        rw (le-leb _ _ short)
-    go false many = refl
+unfolding active_ep_rsp
+active_checked seq a d = refl
 
 pub record ListedUsed (d : DeviceDescriptorConfig) (n i : ℕ) (s : List ℕ) (from at : ℕ) (t : List ℕ) : Type 0 where
   pub here : At d n i
