@@ -35,7 +35,6 @@ use Rattle.zdo_device.specs.Tables.{Pools, used, endpoint_record, good_device, e
 use Rattle.zdo_device.specs.declared.descriptor.EndpointDescriptor.{EndpointDescriptor}
 use Rattle.zdo_device.specs.declared.descriptor.DeviceDescriptorConfig.{DeviceDescriptorConfig}
 use Rattle.zdo_device_rsp.specs.TableReplies.{numbers, active_rsp_of, active_ep_rsp, simple_rsp_of, simple_desc_rsp}
-use Rattle.zdo_device_rsp.proofs.Active.{active_checked}
 use Rattle.zdo_device_rsp.proofs.Described.{as_list}
 use Rattle.zdo_readers.specs.Readers.{header_widths, header_in, descriptor_reply_in, node_with, node_without, node_reply_in, node_desc_rsp_in, power_with, power_without, power_reply_in, associated_in, addr_widths, addr_reply_in, status_widths, status_reply_in}
 use Rattle.zdo_readers.specs.declared.descriptor.OptionServerMask.{OptionServerMask}
@@ -221,10 +220,10 @@ second_back seq status fs rest = omega arith
 module _ (seq : ℕ) (a : ShortAddress) where
   active_back :
       (d : DeviceDescriptorConfig) → ReadsAs (active_ep_rsp seq a d) list_read (answer (cut_header seq SUCCESS a, map (λ x. x % 256) (numbers (used d))))
-  unfolding active_rsp_of list_rsp cut_header
+  unfolding active_ep_rsp active_rsp_of list_rsp cut_header
   active_back d before after rest told w =
       let (bytes, came, stands) = wrote_answer (active_ep_rsp seq a d) w in
-      let (held, same) = granted (leb d.endpoint_count 32) (active_rsp_of seq a (used d)) 1 (sym (active_checked seq a d) ∙ came) in
+      let (held, same) = granted (leb d.endpoint_count 32) (active_rsp_of seq a (used d)) 1 came in
       let few : length (numbers (used d)) ≤ 255 = used_few d (leb-true _ _ held) in
       let whole : bytes ≡ laid (header seq SUCCESS a ++ listed 1 (numbers (used d))) = rw (← endpoints_listed _ few) cc in
       rw (sent stands, whole) (list_back seq SUCCESS a (numbers (used d)) rest few)

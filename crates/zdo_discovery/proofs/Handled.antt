@@ -17,7 +17,6 @@ use Rattle.zdo_replies.specs.Replies.{addr_rsp, addr_rsp_single}
 use Rattle.zdo_device.specs.Tables.{used}
 use Rattle.zdo_device.specs.declared.descriptor.DeviceDescriptorConfig.{DeviceDescriptorConfig}
 use Rattle.zdo_device_rsp.specs.TableReplies.{active_rsp_of, active_ep_rsp}
-use Rattle.zdo_device_rsp.proofs.Active.{active_checked}
 use Rattle.zdo_discovery.specs.Discovery.{our_address, on_nwk_addr, on_ieee_addr, not_ours, about}
 
 -- ---- addresses
@@ -113,4 +112,5 @@ pub active_counted :
     → d.endpoint_count ≤ 32
     → Wrote (active_ep_rsp seq a d) before told after
     → Wrote (active_rsp_of seq a (used d)) before told after
-active_counted seq a d few w = rw (active_checked seq a d, le-leb d.endpoint_count 32 few) at w
+unfolding active_ep_rsp
+active_counted seq a d few w = rw (le-leb d.endpoint_count 32 few) at w

@@ -1,5 +1,4 @@
 -- `byte::read_u16` meets its contract: two fields of one byte are one of two. Assumes nothing.
-use borrow.Author.Rules.{rules}
 use Rattle.zigbee_types.proofs.Fields.{read_both}
 use Rattle.byte.proofs.read_u16.Goals as goal
 

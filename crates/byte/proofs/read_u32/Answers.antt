@@ -1,5 +1,4 @@
 -- `byte::read_u32` meets its contract: two fields of two bytes are one of four. Assumes nothing.
-use borrow.Author.Rules.{rules}
 use Rattle.zigbee_types.proofs.Fields.{read_both}
 use Rattle.byte.proofs.read_u32.Goals as goal
 

@@ -1,5 +1,4 @@
 -- `byte::read_u64` meets its contract: two fields of four bytes are one of eight. Assumes nothing.
-use borrow.Author.Rules.{rules}
 use Rattle.zigbee_types.proofs.Fields.{read_both}
 use Rattle.byte.proofs.read_u64.Goals as goal
 

@@ -1,5 +1,4 @@
 -- `byte::read_u8` meets its contract: the element at a place is the byte there. Assumes nothing.
-use borrow.Author.Rules.{rules}
 use Rattle.zigbee_types.proofs.Fields.{read_byte}
 use Rattle.byte.proofs.read_u8.Goals as goal
 

@@ -1,5 +1,4 @@
 -- `byte::write_u16` meets its contract: the two bytes of a number are its low one and its high one. Assumes nothing.
-use borrow.Author.Rules.{rules}
 use Rattle.zigbee_types.proofs.Fields.{put_both}
 use Rattle.byte.proofs.write_u16.Goals as goal
 

@@ -1,5 +1,4 @@
 -- `byte::write_u64` meets its contract: the eight bytes of a number are its low four and its high four. Assumes nothing.
-use borrow.Author.Rules.{rules}
 use Rattle.zigbee_types.proofs.Fields.{put_both}
 use Rattle.byte.proofs.write_u64.Goals as goal
 

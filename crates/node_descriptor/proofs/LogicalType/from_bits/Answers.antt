@@ -2,9 +2,7 @@
 use Rattle.std.proofs.Common.{rules}
 use Rattle.zigbee_types.specs.Lists.{find, option}
 use Rattle.zigbee_types.specs.Named.{named}
-use Rattle.zigbee_types.proofs.Named.{named_rest}
-use Rattle.node_descriptor.specs.NodeDescriptor.{type_number, type_names, logical_type_of}
-use Rattle.node_descriptor.specs.declared.LogicalType.TheVariants.{Reserved}
+use Rattle.node_descriptor.specs.NodeDescriptor.{logical_type_of}
 use Rattle.node_descriptor.proofs.LogicalType.from_bits.Goals as goal
 
 pub returns-in-0 : goal.returns-in-0

@@ -1,5 +1,4 @@
 -- `NodePowerDescriptor::supports` tells whether a source is among the available: the two have a bit in common. Assumes nothing.
-use borrow.Author.Rules.{rules}
 use Rattle.node_power_descriptor.proofs.Common.{supports_told}
 use Rattle.node_power_descriptor.proofs.NodePowerDescriptor.supports.Goals as goal
 

@@ -2,9 +2,7 @@
 use Rattle.std.proofs.Common.{rules}
 use Rattle.zigbee_types.specs.Lists.{find, option}
 use Rattle.zigbee_types.specs.Named.{named}
-use Rattle.zigbee_types.proofs.Named.{named_rest}
-use Rattle.power_names.specs.Names.{mode_number, mode_names, current_power_mode_of}
-use Rattle.power_names.specs.declared.CurrentPowerMode.TheVariants.{Reserved}
+use Rattle.power_names.specs.Names.{current_power_mode_of}
 use Rattle.power_names.proofs.CurrentPowerMode.from_bits.Goals as goal
 
 pub returns-in-0 : goal.returns-in-0

@@ -1,9 +1,7 @@
 -- `PowerSource::bitmap` is the union of the sources. The loop's invariant: the bits are the union of the sources passed. The
 -- measure is how many are left. Assumes nothing.
-use Prim.Native.Nat.{◌-◌}
 use borrow.Author.Rules.{rules}
-use lib.ListN.{length}
-use Rattle.power_names.proofs.Union.{Gathering, gathering_first, gathering_next, gathering_end}
+use Rattle.power_names.proofs.Union.{gathering_first, gathering_next, gathering_end}
 use Rattle.power_names.proofs.PowerSource.bitmap.Goals as goal
 
 ruleset laws = (rules, gathering_first, gathering_next, gathering_end)

@@ -2,9 +2,7 @@
 use Rattle.std.proofs.Common.{rules}
 use Rattle.zigbee_types.specs.Lists.{find, option}
 use Rattle.zigbee_types.specs.Named.{named}
-use Rattle.zigbee_types.proofs.Named.{named_rest}
-use Rattle.power_names.specs.Names.{source_number, source_names, power_source_of}
-use Rattle.power_names.specs.declared.PowerSource.TheVariants.{Reserved}
+use Rattle.power_names.specs.Names.{power_source_of}
 use Rattle.power_names.proofs.PowerSource.from_bits.Goals as goal
 
 pub returns-in-1 : goal.returns-in-1

@@ -1,5 +1,4 @@
 -- `SimpleDescriptorFields::read` meets its contract: the four fields stand one behind the other. Assumes nothing.
-use borrow.Author.Rules.{rules}
 use Rattle.simple_descriptor.proofs.Read.{front_read}
 use Rattle.simple_descriptor.proofs.SimpleDescriptorFields.read.Goals as goal
 

@@ -1,9 +1,7 @@
 -- `descriptor::write_clusters` meets its contract. The loop's invariant: the first i clusters were put behind the count. The
 -- measure is how many are left. Assumes nothing.
-use Prim.Native.Nat.{◌-◌}
-use lib.ListN.{length}
 use borrow.Author.Rules.{rules}
-use Rattle.zigbee_types.proofs.Entries.{EntriesPut, entries_first, entries_next, entries_end}
+use Rattle.zigbee_types.proofs.Entries.{entries_first, entries_next, entries_end}
 use Rattle.simple_descriptor.proofs.descriptor.write_clusters.Goals as goal
 
 ruleset laws = (rules, entries_first, entries_next, entries_end)

@@ -16,3 +16,6 @@ returns-then-written-out c = search laws
 
 pub returns : goal.returns
 returns c = search laws
+
+pub record_matches-requires-clause-payload_value : goal.record_matches-requires-clause-payload_value
+record_matches-requires-clause-payload_value c = search laws

@@ -1,5 +1,4 @@
 -- `Binding::eq` meets its contract: its six tests are those of two keys. Assumes nothing.
-use Rattle.std.proofs.Common.{rules}
 use mathlib.Core.Bool.{and_assoc, and-true}
 use Rattle.aps_binding.specs.Entry.{key, alike, same}
 use Rattle.aps_binding.proofs.binding.Binding.eq.Goals as goal

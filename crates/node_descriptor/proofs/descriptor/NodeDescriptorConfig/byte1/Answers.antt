@@ -1,5 +1,4 @@
 -- `NodeDescriptorConfig::byte1` is byte 1 of the descriptor. Assumes nothing.
-use Rattle.std.proofs.Common.{rules}
 use Rattle.node_descriptor.specs.NodeDescriptor.{node_byte1}
 use Rattle.node_descriptor.proofs.Packed.{band_packed}
 use Rattle.node_descriptor.proofs.descriptor.NodeDescriptorConfig.byte1.Goals as goal

@@ -1,5 +1,4 @@
 -- `NodeDescriptorConfig::write` meets its contract: nine fields are put one behind the other. Assumes nothing.
-use native.Mathlib.Omega.{arith}
 use borrow.Author.Rules.{rules}
 use Rattle.zigbee_types.specs.Answers.{written_says}
 use Rattle.zigbee_types.specs.Layout.{size}

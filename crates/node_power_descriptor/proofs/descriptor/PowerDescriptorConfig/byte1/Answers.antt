@@ -1,5 +1,4 @@
 -- `PowerDescriptorConfig::byte1` is the current source and its level, each in its half. Assumes nothing.
-use borrow.Author.Rules.{rules}
 use Rattle.node_power_descriptor.proofs.Bits.{byte1_joined}
 use Rattle.node_power_descriptor.proofs.descriptor.PowerDescriptorConfig.byte1.Goals as goal
 
