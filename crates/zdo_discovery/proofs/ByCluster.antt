@@ -68,17 +68,19 @@ module _ (h : Host) (cluster : ℕ) (payload : List ℕ) {before after : List �
   unfolding discovery resolved
   by_match e w = rw e w
 
--- the clusters of discovery
-abbrev pub clusters : List ℕ
-clusters = NWK_ADDR_REQ_NUMBER ∷ IEEE_ADDR_REQ_NUMBER ∷ NODE_DESC_REQ_NUMBER ∷ POWER_DESC_REQ_NUMBER ∷ SIMPLE_DESC_REQ_NUMBER ∷ ACTIVE_EP_REQ_NUMBER ∷ MATCH_DESC_REQ_NUMBER ∷ []
-
 -- any other: refusal 2
 pub by_none :
     (h : Host) (cluster : ℕ) (payload before : List ℕ)
-    → Unnamed Unit (λ n. n) cluster clusters
+    → (cluster ≡ 0 → ⊥)
+    → (cluster ≡ 1 → ⊥)
+    → (cluster ≡ 2 → ⊥)
+    → (cluster ≡ 3 → ⊥)
+    → (cluster ≡ 4 → ⊥)
+    → (cluster ≡ 5 → ⊥)
+    → (cluster ≡ 6 → ⊥)
     → Wrote (discovery h cluster payload) before (written_says (Refused UnknownCluster)) before
 unfolding discovery written_says
-by_none h cluster payload before (((((((u, a), b), c), d), e), f), g) =
+by_none h cluster payload before a b c d e f g =
     rw (ne_eqb cluster 0 a, ne_eqb cluster 1 b, ne_eqb cluster 2 c, ne_eqb cluster 3 d, ne_eqb cluster 4 e, ne_eqb cluster 5 f, ne_eqb cluster 6 g)
     (wrote_refused 2 before)
 
