@@ -46,9 +46,9 @@ impl Entry {
     pub fn term(&self) -> String {
         let Entry { from, cluster, to } = self;
         match to {
-            Destination::Group(group) => format!("(toGroup {from} {cluster} {group})"),
+            Destination::Group(group) => format!("(to_group {from} {cluster} {group})"),
             Destination::Device(ieee, endpoint) => {
-                format!("(toDevice {from} {cluster} {ieee} {endpoint})")
+                format!("(to_device {from} {cluster} {ieee} {endpoint})")
             }
         }
     }
@@ -72,7 +72,7 @@ fn group(mut question: Words, answer: &str) -> Option<Vec<Part>> {
     );
     question.end()?;
     Some(vec![part(
-        format!("groupBinding {from} {cluster} {}", address(&group)),
+        format!("group_binding {from} {cluster} {}", address(&group)),
         entry(answer)?.term(),
     )])
 }
@@ -82,7 +82,7 @@ fn device(mut question: Words, answer: &str) -> Option<Vec<Part>> {
     let (ieee, endpoint) = (address(&question.number(16)?), question.number(2)?);
     question.end()?;
     Some(vec![part(
-        format!("deviceBinding {from} {cluster} {ieee} {endpoint}"),
+        format!("device_binding {from} {cluster} {ieee} {endpoint}"),
         entry(answer)?.term(),
     )])
 }
@@ -142,7 +142,7 @@ fn table(limit: usize, count: usize, held: &[&str]) -> Option<String> {
 /// The table to begin with: the empty one, or one that holds these entries.
 fn begin(limit: usize, held: &[&str]) -> Option<String> {
     match held {
-        [] => Some(format!("(emptyTable {limit})")),
+        [] => Some(format!("(empty_table {limit})")),
         _ => table(limit, held.len(), held),
     }
 }
@@ -181,14 +181,14 @@ fn links(mut question: Words, answer: &str) -> Option<Vec<Part>> {
 /// One step: what it tells, and the table that it leaves.
 fn link(before: &str, (binds, word): (bool, &str), status: &str, after: &str) -> Option<[Part; 2]> {
     let definition = if binds {
-        "createBindingLink"
+        "create_binding_link"
     } else {
-        "removeBindingLink"
+        "remove_binding_link"
     };
     let call = format!("({definition} {before} {})", entry(word)?.term());
     let told = format!("answer {}", terms::number(status, 2)?);
     Some([
-        part(format!("linkTold {call}"), told),
-        part(format!("tableLeft {before} {call}"), after.to_string()),
+        part(format!("link_told {call}"), told),
+        part(format!("table_left {before} {call}"), after.to_string()),
     ])
 }

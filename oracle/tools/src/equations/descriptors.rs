@@ -1,6 +1,6 @@
 //! Node, power and simple descriptor.
 
-use super::terms::{self, Digits, LEVEL, MODE, Names, SOURCE, TYPE, Words, escaped};
+use super::terms::{self, Digits, LEVEL, MODE, Names, SOURCE, TYPE, Words};
 use super::{Claim, Part, part, refused, wrote};
 use crate::words;
 
@@ -11,16 +11,16 @@ pub fn claim(name: &str) -> Option<Claim> {
         "NodeDescriptor::try_read" => try_read_node,
         "NodeDescriptor::logical_type" => logical_type,
         "NodeDescriptor::accessors" => node_accessors,
-        "FrequencyBands::is_set" => |q, a| flags(2, "frequencyBandFlag", &BANDS, q, a),
-        "MacCapabilities::is_set" => |q, a| flags(2, "macCapabilityFlag", &MAC, q, a),
-        "ServerMask::is_set" => |q, a| flags(4, "serverMaskFlag", &SERVER, q, a),
+        "FrequencyBands::is_set" => |q, a| flags(2, "frequency_band_flag_of", &BANDS, q, a),
+        "MacCapabilities::is_set" => |q, a| flags(2, "mac_capability_flag_of", &MAC, q, a),
+        "ServerMask::is_set" => |q, a| flags(4, "server_mask_flag_of", &SERVER, q, a),
         "DescriptorCapabilities::is_set" => {
-            |q, a| flags(2, "descriptorCapabilityFlag", &CAPABILITIES, q, a)
+            |q, a| flags(2, "descriptor_capability_flag_of", &CAPABILITIES, q, a)
         }
         "ServerMask::get_stack_compliance_revision" => stack_compliance_revision,
-        "CurrentPowerMode::bits" => |q, a| bits("modeBits", &MODE, q, a),
-        "PowerSource::bits" => |q, a| bits("sourceBits", &SOURCE, q, a),
-        "CurrentPowerSourceLevel::bits" => |q, a| bits("levelBits", &LEVEL, q, a),
+        "CurrentPowerMode::bits" => |q, a| bits("mode_bits", &MODE, q, a),
+        "PowerSource::bits" => |q, a| bits("source_bits", &SOURCE, q, a),
+        "CurrentPowerSourceLevel::bits" => |q, a| bits("level_bits", &LEVEL, q, a),
         "PowerSource::bitmap" => bitmap,
         "PowerDescriptorConfig::write" => write_power,
         "NodePowerDescriptor::try_read" => try_read_power,
@@ -107,7 +107,7 @@ pub fn power(word: &str, sources: &str) -> Option<String> {
     digits.end()?;
     let sources = SOURCE.nameds(sources)?;
     Some(format!(
-        "(power {mode} {source} {level} (sourceBitmap (map sourceBits {sources})))"
+        "(power {mode} {source} {level} (source_bitmap (map source_bits {sources})))"
     ))
 }
 
@@ -128,7 +128,7 @@ pub fn endpoint(word: &str, inputs: &str, outputs: &str) -> Option<String> {
 
 fn default_node(question: Words, answer: &str) -> Option<Vec<Part>> {
     question.end()?;
-    Some(vec![part("defaultNode", node(answer)?)])
+    Some(vec![part("default_node", node(answer)?)])
 }
 
 fn write_node(mut question: Words, answer: &str) -> Option<Vec<Part>> {
@@ -136,7 +136,7 @@ fn write_node(mut question: Words, answer: &str) -> Option<Vec<Part>> {
     let buffer = question.word()?;
     question.end()?;
     wrote(
-        &format!("answer (laid (nodeDescriptor {node}))"),
+        &format!("answer (laid (node_descriptor_of {node}))"),
         buffer,
         answer,
         5,
@@ -159,7 +159,7 @@ fn try_read(reader: &str, widths: &str, bytes: &str, answer: &str) -> Option<Par
 fn try_read_node(mut question: Words, answer: &str) -> Option<Vec<Part>> {
     let bytes = question.bytes()?;
     question.end()?;
-    let taken = try_read("nodeDescriptorIn", "nodeWidths", &bytes, answer)?;
+    let taken = try_read("node_descriptor_in", "node_widths", &bytes, answer)?;
     Some(vec![taken])
 }
 
@@ -169,14 +169,14 @@ fn try_read_power(mut question: Words, answer: &str) -> Option<Vec<Part>> {
     let bytes = terms::bytes(word)?;
     question.end()?;
     let mut parts = vec![try_read(
-        "powerDescriptorIn",
-        "powerWidths",
+        "power_descriptor_in",
+        "power_widths",
         &bytes,
         answer,
     )?];
     if answer != "R" {
         parts.push(part(
-            format!("powerDescriptorIn {bytes}"),
+            format!("power_descriptor_in {bytes}"),
             format!("answer {}", power_bytes(word)?),
         ));
     }
@@ -185,9 +185,8 @@ fn try_read_power(mut question: Words, answer: &str) -> Option<Vec<Part>> {
 
 /// One field of a node descriptor that is read from bytes.
 fn node_field(bytes: &str, field: &str, value: &str) -> Part {
-    let field = escaped(field);
     part(
-        format!("mapped (λ d. nodeFields d .{field}) (nodeDescriptorIn {bytes})"),
+        format!("mapped (λ d. (node_fields d).{field}) (node_descriptor_in {bytes})"),
         format!("answer {value}"),
     )
 }
@@ -233,7 +232,7 @@ fn flags(
     }
     let flag = |(name, set): (&&str, &str)| {
         Some(part(
-            format!("bitAt ({number} {name}) {field}"),
+            format!("bit_at ({number} {name}) {field}"),
             terms::flag(set)?,
         ))
     };
@@ -244,7 +243,7 @@ fn stack_compliance_revision(mut question: Words, answer: &str) -> Option<Vec<Pa
     let mask = question.number(4)?;
     question.end()?;
     Some(vec![part(
-        format!("stackRevision {mask}"),
+        format!("stack_revision {mask}"),
         terms::number(answer, 2)?,
     )])
 }
@@ -270,10 +269,10 @@ fn bitmap(mut question: Words, answer: &str) -> Option<Vec<Part>> {
     let bits = terms::number(answer, 2)?;
     Some(vec![
         part(
-            format!("sourceBitmap (map sourceBits {sources})"),
+            format!("source_bitmap (map source_bits {sources})"),
             bits.clone(),
         ),
-        part(format!("sourceBitmap {}", terms::list(held)), bits),
+        part(format!("source_bitmap {}", terms::list(held)), bits),
     ])
 }
 
@@ -282,7 +281,7 @@ fn write_power(mut question: Words, answer: &str) -> Option<Vec<Part>> {
     let buffer = question.word()?;
     question.end()?;
     wrote(
-        &format!("answer (laid (powerDescriptor {power}))"),
+        &format!("answer (laid (power_descriptor_of {power}))"),
         buffer,
         answer,
         5,
@@ -293,7 +292,7 @@ fn write_power(mut question: Words, answer: &str) -> Option<Vec<Part>> {
 fn power_bytes(word: &str) -> Option<String> {
     let mut digits = Digits::of(word)?;
     Some(format!(
-        "(powerBytes {} {})",
+        "(power_bytes {} {})",
         digits.number(2)?,
         digits.number(2)?
     ))
@@ -303,9 +302,7 @@ fn power_accessors(mut question: Words, answer: &str) -> Option<Vec<Part>> {
     let bytes = power_bytes(question.word()?)?;
     question.end()?;
     let mut digits = Digits::of(answer)?;
-    let field = |field: &str, value: String| {
-        part(format!("powerFields {bytes} .{}", escaped(field)), value)
-    };
+    let field = |field: &str, value: String| part(format!("(power_fields {bytes}).{field}"), value);
     let parts = vec![
         field("current_power_mode", MODE.named(digits.take(4)?)?),
         field("current_power_source", SOURCE.named(digits.take(4)?)?),
@@ -330,7 +327,7 @@ fn write_simple(mut question: Words, answer: &str) -> Option<Vec<Part>> {
     let buffer = question.word()?;
     question.end()?;
     let endpoint = endpoint(fields, inputs, outputs)?;
-    wrote(&format!("simpleWritten {endpoint}"), buffer, answer, 5)
+    wrote(&format!("simple_written {endpoint}"), buffer, answer, 5)
 }
 
 /// Has an endpoint more than 28 clusters? Document 01 writes none of these, and the Rust's inner writer does, which is listed.

@@ -30,7 +30,7 @@ fn read(width: usize, mut question: Words, answer: &str) -> Option<Vec<Part>> {
     answer.end()?;
     Some(vec![
         fits(width, &at, &bytes),
-        part(format!("numberAt {width} {bytes} {at}"), value),
+        part(format!("number_at {width} {bytes} {at}"), value),
         part(format!("{at} + {width}"), next),
     ])
 }

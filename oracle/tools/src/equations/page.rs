@@ -90,8 +90,8 @@ impl Frame {
         let mut unfolding = "unfolding".to_string();
         for name in crates {
             for (module, names) in modules(&folder.join(name))? {
-                let alias = format!("{}-{module}", name.replace('_', "-"));
-                header += &format!("use Rattle·{name}.specs.{module} as {alias}\n");
+                let alias = format!("{name}_{module}");
+                header += &format!("use Rattle.{name}.specs.{module} as {alias}\n");
                 for name in names {
                     unfolding += &format!(" {alias}.{name}");
                 }
@@ -136,7 +136,7 @@ pub fn write(folder: &Path, pages: &[(String, String)]) -> io::Result<()> {
     fs::create_dir_all(folder.join("proofs"))?;
     fs::write(
         folder.join("src/lib.rt"),
-        "// No code: equations stand in proofs/.\n",
+        "// No code: equations stand in proofs/.\n\n#![tactic(auto)]\n",
     )?;
     fs::write(
         folder.join("proofs/Shapes.antt"),

@@ -66,9 +66,8 @@ fn name(place: usize) -> String {
 fn check(folder: &Path) -> Result<BTreeMap<usize, String>, Fault> {
     let mut command = Command::new("rt");
     let output = command
-        .args(["check", "sampled"])
-        .env("RT_CUT", "0")
-        .current_dir(folder)
+        .arg("check")
+        .current_dir(folder.join("crates/sampled"))
         .output()?;
     let said = String::from_utf8_lossy(&output.stdout).to_string()
         + &String::from_utf8_lossy(&output.stderr);
@@ -91,7 +90,7 @@ fn errors(said: &str) -> Option<BTreeMap<usize, String>> {
             let sample = name
                 .parse()
                 .ok()
-                .filter(|_| place.contains("crates/sampled/proofs/F"))?;
+                .filter(|_| place.starts_with("./proofs/F"))?;
             refused.entry(sample).or_default().push_str(message);
             last = Some(sample);
         } else if let Some(sample) = last.filter(|_| line.starts_with("  ")) {

@@ -11,18 +11,18 @@ pub fn claim(name: &str) -> Option<Claim> {
         "addr_rsp" => |q, a| reply(q, a, addr_rsp),
         "addr_rsp_error" => |q, a| reply(q, a, addr_rsp_error),
         "descriptor_rsp_error" => {
-            |q, a| reply(q, a, |seq, q| short_error("descriptorRspError", seq, q))
+            |q, a| reply(q, a, |seq, q| short_error("descriptor_rsp_error", seq, q))
         }
         "active_ep_rsp_error" | "simple_desc_rsp_error" => {
-            |q, a| reply(q, a, |seq, q| short_error("emptyRsp", seq, q))
+            |q, a| reply(q, a, |seq, q| short_error("empty_rsp", seq, q))
         }
         "match_desc_rsp" => |q, a| reply(q, a, match_desc_rsp),
         "match_desc_rsp_error" => |q, a| reply(q, a, match_desc_rsp_error),
         "bind_rsp" => |q, a| reply(q, a, bind_rsp),
         "mgmt_leave_rsp" => |q, a| reply(q, a, mgmt_leave_rsp),
-        "leave_status" => |q, a| code("leaveStatus", &LEAVE, q, a),
-        "DiscoveryError::code" => |q, a| code("discoveryCode", &DISCOVERY, q, a),
-        "BindStatus::code" => |q, a| code("bindCode", &BIND, q, a),
+        "leave_status" => |q, a| code("leave_status", &LEAVE, q, a),
+        "DiscoveryError::code" => |q, a| code("discovery_code", &DISCOVERY, q, a),
+        "BindStatus::code" => |q, a| code("bind_code", &BIND, q, a),
         _ => return None,
     })
 }
@@ -47,31 +47,31 @@ fn status(definition: &str, names: &Names, question: &mut Words) -> Option<Strin
 
 fn node_desc_rsp(seq: &str, q: &mut Words) -> Option<String> {
     let short = address(&q.number(4)?);
-    Some(format!("nodeDescRsp {seq} {short} {}", node(q.word()?)?))
+    Some(format!("node_desc_rsp {seq} {short} {}", node(q.word()?)?))
 }
 
 fn power_desc_rsp(seq: &str, q: &mut Words) -> Option<String> {
     let short = address(&q.number(4)?);
     Some(format!(
-        "powerDescRsp {seq} {short} {}",
+        "power_desc_rsp {seq} {short} {}",
         power(q.word()?, q.word()?)?
     ))
 }
 
 fn addr_rsp(seq: &str, q: &mut Words) -> Option<String> {
     let (ieee, short) = (address(&q.number(16)?), address(&q.number(4)?));
-    Some(format!("addrRsp {seq} {ieee} {short} {}", q.flag()?))
+    Some(format!("addr_rsp {seq} {ieee} {short} {}", q.flag()?))
 }
 
 fn addr_rsp_error(seq: &str, q: &mut Words) -> Option<String> {
-    let status = status("discoveryCode", &DISCOVERY, q)?;
+    let status = status("discovery_code", &DISCOVERY, q)?;
     let (ieee, short) = (address(&q.number(16)?), address(&q.number(4)?));
-    Some(format!("addrRspSingle {seq} {status} {ieee} {short}"))
+    Some(format!("addr_rsp_single {seq} {status} {ieee} {short}"))
 }
 
 /// An error form that has the address of interest.
 fn short_error(definition: &str, seq: &str, q: &mut Words) -> Option<String> {
-    let status = status("discoveryCode", &DISCOVERY, q)?;
+    let status = status("discovery_code", &DISCOVERY, q)?;
     Some(format!(
         "{definition} {seq} {status} {}",
         address(&q.number(4)?)
@@ -80,22 +80,25 @@ fn short_error(definition: &str, seq: &str, q: &mut Words) -> Option<String> {
 
 fn match_desc_rsp(seq: &str, q: &mut Words) -> Option<String> {
     let short = address(&q.number(4)?);
-    Some(format!("listRsp {seq} {short} {}", q.bytes()?))
+    Some(format!("list_rsp {seq} {short} {}", q.bytes()?))
 }
 
 fn match_desc_rsp_error(seq: &str, q: &mut Words) -> Option<String> {
     Some(format!(
-        "matchDescRspError {seq} {}",
-        status("discoveryCode", &DISCOVERY, q)?
+        "match_desc_rsp_error {seq} {}",
+        status("discovery_code", &DISCOVERY, q)?
     ))
 }
 
 fn bind_rsp(seq: &str, q: &mut Words) -> Option<String> {
-    Some(format!("statusRsp {seq} {}", status("bindCode", &BIND, q)?))
+    Some(format!(
+        "status_rsp {seq} {}",
+        status("bind_code", &BIND, q)?
+    ))
 }
 
 fn mgmt_leave_rsp(seq: &str, q: &mut Words) -> Option<String> {
-    Some(format!("statusRsp {seq} {}", q.number(2)?))
+    Some(format!("status_rsp {seq} {}", q.number(2)?))
 }
 
 fn code(definition: &str, names: &Names, mut question: Words, answer: &str) -> Option<Vec<Part>> {

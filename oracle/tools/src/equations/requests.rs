@@ -1,7 +1,7 @@
 //! Requests, the one reader of a reply, and the numbers that requests are told apart by.
 
 use super::bindings::entry;
-use super::terms::{self, Words, address, escaped, record};
+use super::terms::{self, Words, address, record};
 use super::{Claim, Part, part, refused, wrote};
 
 pub fn claim(name: &str) -> Option<Claim> {
@@ -53,7 +53,7 @@ fn whole(fields: &[(&str, &str)]) -> (String, String) {
 }
 
 fn nwk_addr_req(question: Words, answer: &str) -> Option<Vec<Part>> {
-    parsed("nwkAddrReqIn", question, answer, |_, a| {
+    parsed("nwk_addr_req_in", question, answer, |_, a| {
         let (seq, ieee, kind) = (a.number(2)?, address(&a.number(16)?), a.number(2)?);
         let fields = [
             ("seq", &*seq),
@@ -65,7 +65,7 @@ fn nwk_addr_req(question: Words, answer: &str) -> Option<Vec<Part>> {
 }
 
 fn ieee_addr_req(question: Words, answer: &str) -> Option<Vec<Part>> {
-    parsed("ieeeAddrReqIn", question, answer, |_, a| {
+    parsed("ieee_addr_req_in", question, answer, |_, a| {
         let (seq, short, kind) = (a.number(2)?, address(&a.number(4)?), a.number(2)?);
         let fields = [
             ("seq", &*seq),
@@ -77,14 +77,14 @@ fn ieee_addr_req(question: Words, answer: &str) -> Option<Vec<Part>> {
 }
 
 fn addr_of_interest(question: Words, answer: &str) -> Option<Vec<Part>> {
-    parsed("addrOfInterestIn", question, answer, |_, a| {
+    parsed("addr_of_interest_in", question, answer, |_, a| {
         Some(vec![whole(&[("0", &a.number(4)?)])])
     })
 }
 
 /// The request, and the entry that it names.
 fn bind_req(question: Words, answer: &str) -> Option<Vec<Part>> {
-    parsed("bindReqIn", question, answer, |_, a| {
+    parsed("bind_req_in", question, answer, |_, a| {
         let (seq, source, entry) = (a.number(2)?, address(&a.number(16)?), entry(a.word()?)?);
         let fields = [
             ("seq", &*seq),
@@ -95,14 +95,14 @@ fn bind_req(question: Words, answer: &str) -> Option<Vec<Part>> {
         ];
         Some(vec![
             whole(&fields),
-            ("bindingOf q".to_string(), entry.term()),
+            ("binding_of q".to_string(), entry.term()),
         ])
     })
 }
 
 /// The request, whose lists are places in the payload, and the lists that stand there.
 fn match_desc_req(question: Words, answer: &str) -> Option<Vec<Part>> {
-    parsed("matchDescReqIn", question, answer, |bytes, a| {
+    parsed("match_desc_req_in", question, answer, |bytes, a| {
         let (seq, short, profile) = (a.number(2)?, address(&a.number(4)?), a.number(4)?);
         let inputs = record(&[("start", &a.decimal()?), ("count", &a.decimal()?)]);
         let outputs = record(&[("start", &a.decimal()?), ("count", &a.decimal()?)]);
@@ -113,7 +113,7 @@ fn match_desc_req(question: Words, answer: &str) -> Option<Vec<Part>> {
             ("input_clusters", &inputs),
             ("output_clusters", &outputs),
         ];
-        let list = |side: &str| format!("entriesAt 2 {bytes} (q .{})", escaped(side));
+        let list = |side: &str| format!("entries_at 2 {bytes} q.{side}");
         Some(vec![
             whole(&fields),
             (list("input_clusters"), a.clusters()?),
@@ -123,7 +123,7 @@ fn match_desc_req(question: Words, answer: &str) -> Option<Vec<Part>> {
 }
 
 fn mgmt_leave_req(question: Words, answer: &str) -> Option<Vec<Part>> {
-    parsed("mgmtLeaveReqIn", question, answer, |_, a| {
+    parsed("mgmt_leave_req_in", question, answer, |_, a| {
         let seq = a.number(2)?;
         let device = match a.word()? {
             "-" => "address.None".to_string(),
@@ -144,21 +144,21 @@ fn node_desc_req(mut question: Words, answer: &str) -> Option<Vec<Part>> {
     let (seq, short) = (question.number(2)?, address(&question.number(4)?));
     let buffer = question.word()?;
     question.end()?;
-    wrote(&format!("nodeDescReq {seq} {short}"), buffer, answer, 5)
+    wrote(&format!("node_desc_req {seq} {short}"), buffer, answer, 5)
 }
 
 /// The ten requests in the order of the Rust's constants.
 const REQUESTS: [&str; 10] = [
-    "NWK-ADDR-REQ",
-    "IEEE-ADDR-REQ",
-    "NODE-DESC-REQ",
-    "POWER-DESC-REQ",
-    "SIMPLE-DESC-REQ",
-    "ACTIVE-EP-REQ",
-    "MATCH-DESC-REQ",
-    "BIND-REQ",
-    "UNBIND-REQ",
-    "MGMT-LEAVE-REQ",
+    "NWK_ADDR_REQ_NUMBER",
+    "IEEE_ADDR_REQ_NUMBER",
+    "NODE_DESC_REQ_NUMBER",
+    "POWER_DESC_REQ_NUMBER",
+    "SIMPLE_DESC_REQ_NUMBER",
+    "ACTIVE_EP_REQ_NUMBER",
+    "MATCH_DESC_REQ_NUMBER",
+    "BIND_REQ_NUMBER",
+    "UNBIND_REQ_NUMBER",
+    "MGMT_LEAVE_REQ_NUMBER",
 ];
 
 fn constants(question: Words, answer: &str) -> Option<Vec<Part>> {
@@ -169,9 +169,9 @@ fn constants(question: Words, answer: &str) -> Option<Vec<Part>> {
         parts.push(part(request, answer.number(4)?));
     }
     for request in REQUESTS {
-        parts.push(part(format!("replyCluster {request}"), answer.number(4)?));
+        parts.push(part(format!("reply_cluster {request}"), answer.number(4)?));
     }
-    for kind in ["ADDR-REQUEST-SINGLE", "ADDR-REQUEST-EXTENDED"] {
+    for kind in ["ADDR_REQUEST_SINGLE_NUMBER", "ADDR_REQUEST_EXTENDED_NUMBER"] {
         parts.push(part(kind, answer.number(2)?));
     }
     answer.end()?;
@@ -187,7 +187,7 @@ fn option(module: &str, word: &str, digits: usize) -> Option<String> {
 }
 
 fn node_desc_rsp(question: Words, answer: &str) -> Option<Vec<Part>> {
-    parsed("nodeDescRspIn", question, answer, |_, a| {
+    parsed("node_desc_rsp_in", question, answer, |_, a| {
         let (seq, status, short) = (a.number(2)?, a.number(2)?, address(&a.number(4)?));
         let mask = option("mask", a.word()?, 4)?;
         let fields = [
@@ -204,7 +204,7 @@ fn stack_revision(mut question: Words, answer: &str) -> Option<Vec<Part>> {
     let mask = option("mask", question.word()?, 4)?;
     question.end()?;
     Some(vec![part(
-        format!("stackRevisionOf {mask}"),
+        format!("stack_revision_of {mask}"),
         match answer {
             "-" => "none".to_owned(),
             _ => format!("some {}", terms::number(answer, 2)?),

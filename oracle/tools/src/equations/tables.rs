@@ -114,7 +114,7 @@ fn endpoint(mut question: Words, answer: &str) -> Option<Vec<Part>> {
     };
     let side = |side: &str, clusters: &str| {
         Some(part(
-            format!("endpointClusters {pools} {device} side.{side} {number}"),
+            format!("endpoint_clusters {pools} {device} side.{side} {number}"),
             terms::clusters(clusters)?,
         ))
     };
@@ -131,7 +131,7 @@ fn supports_endpoint(mut question: Words, answer: &str) -> Option<Vec<Part>> {
     question.end()?;
     let device = tables.device(&number, ANY);
     Some(vec![part(
-        format!("supportsEndpoint {device} {number}"),
+        format!("supports_endpoint {device} {number}"),
         terms::flag(answer)?,
     )])
 }
@@ -157,10 +157,10 @@ fn matching_endpoints(mut question: Words, answer: &str) -> Option<Vec<Part>> {
     let mut parts = Vec::new();
     for outcome in [
         format!("matched {pools} {device} {payload}"),
-        format!("matchedRun {pools} {rows} {payload}"),
+        format!("matched_run {pools} {rows} {payload}"),
     ] {
         parts.push(part(
-            format!("begunLength {before} ({outcome})"),
+            format!("begun_length {before} ({outcome})"),
             told.clone(),
         ));
         parts.push(part(format!("begun {before} ({outcome})"), after.clone()));
@@ -176,13 +176,13 @@ fn active_ep_rsp(mut question: Words, answer: &str) -> Option<Vec<Part>> {
     let buffer = question.word()?;
     question.end()?;
     let mut parts = wrote(
-        &format!("activeEpRsp {seq} {short} {device}"),
+        &format!("active_ep_rsp {seq} {short} {device}"),
         buffer,
         answer,
         5,
     )?;
     parts.extend(wrote(
-        &format!("activeRecords {seq} {short} {rows}"),
+        &format!("active_records {seq} {short} {rows}"),
         buffer,
         answer,
         5,
@@ -204,6 +204,6 @@ fn simple_desc_rsp(mut question: Words, answer: &str) -> Option<Vec<Part>> {
         .iter()
         .find(|(n, _)| *n == asked)
         .is_some_and(|(_, clusters)| *clusters > 28);
-    let outcome = format!("simpleDescRsp {seq} {short} {pools} {device} {number}");
+    let outcome = format!("simple_desc_rsp {seq} {short} {pools} {device} {number}");
     wrote(&outcome, buffer, answer, if crowded { 4 } else { 5 })
 }

@@ -122,20 +122,11 @@ pub fn list(terms: Vec<String>) -> String {
 
 /// A record of fields, each a name and a term.
 pub fn record(fields: &[(&str, &str)]) -> String {
-    let field = |(name, term): &(&str, &str)| format!("{} = {term}", escaped(name));
+    let field = |(name, term): &(&str, &str)| format!("{name} = {term}");
     format!(
         "(record {{ {} }})",
         fields.iter().map(field).collect::<Vec<_>>().join("; ")
     )
-}
-
-/// A field's name as antt takes it: one with an underscore is escaped.
-pub fn escaped(name: &str) -> String {
-    if name.contains('_') {
-        format!("«{name}»")
-    } else {
-        name.to_string()
-    }
 }
 
 /// An address of any of the three kinds.
