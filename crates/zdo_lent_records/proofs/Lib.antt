@@ -1,10 +1,3 @@
-pub mod Again
 pub mod Checking
 pub mod Finding
-pub mod Frames
-pub mod Lends
 pub mod Listing
-pub mod Prefixes
-pub mod Statements
-pub mod Steps
-pub mod Turns

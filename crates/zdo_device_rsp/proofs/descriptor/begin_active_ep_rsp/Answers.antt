@@ -6,9 +6,6 @@ use Rattle.zdo_device_rsp.proofs.descriptor.begin_active_ep_rsp.Goals as goal
 
 ruleset laws = (rules, begun_many, begun_full, begun_writes)
 
-pub returns-then-count-gt32 : goal.returns-then-count-gt32
-returns-then-count-gt32 c = search laws
-
 pub returns-then-out-count : goal.returns-then-out-count
 returns-then-out-count c = search laws
 
@@ -17,3 +14,6 @@ write_u8-at-requires c = let at = header_place _ _ _ c.write_header-at.ensures i
 
 pub returns : goal.returns
 returns c = search laws
+
+pub returns-then-count-gt32 : goal.returns-then-count-gt32
+returns-then-count-gt32 c = search laws

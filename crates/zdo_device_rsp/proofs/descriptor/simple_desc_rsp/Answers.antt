@@ -6,8 +6,8 @@ use Rattle.zdo_device_rsp.proofs.descriptor.simple_desc_rsp.Goals as goal
 
 ruleset laws = (rules, said_yes, simple_good, simple_bad)
 
-pub returns-then-not-good_tables : goal.returns-then-not-good_tables
-returns-then-not-good_tables c = search laws
-
 pub returns : goal.returns
 returns c = search laws
+
+pub returns-then-not-good_tables : goal.returns-then-not-good_tables
+returns-then-not-good_tables c = search laws

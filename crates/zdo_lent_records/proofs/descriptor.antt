@@ -1,2 +1,0 @@
--- What the proofs of `descriptor` share of its private functions.
-mod Most
