@@ -23,4 +23,4 @@ pub returns-in-Asks : goal.returns-in-Asks
 returns-in-Asks c = search laws
 
 pub returns : goal.returns
-returns c = search (laws, c.well-formed.1.1.1.1.1.0)
+returns c = search (laws, c.well_formed.1.1.1.1.1.0)
