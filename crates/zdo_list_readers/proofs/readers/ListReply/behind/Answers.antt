@@ -10,8 +10,8 @@ ruleset laws = (rules, list_none)
 pub returns-then-reply-lt5 : goal.returns-then-reply-lt5
 returns-then-reply-lt5 c = search laws
 
-pub returns-then-reply-start : goal.returns-then-reply-start
-returns-then-reply-start c = let read = c.read_u8-read.ensures in list_cut _ _ read (omega (arith, read.moved))
-
 pub returns : goal.returns
 returns c = let read = c.read_u8-read.ensures in list_whole _ _ read (omega (arith, read.moved)) (omega (arith, read.moved))
+
+pub returns-then-reply-start : goal.returns-then-reply-start
+returns-then-reply-start c = let read = c.read_u8-read.ensures in list_cut _ _ read (omega (arith, read.moved))
