@@ -249,6 +249,7 @@ pub enum StatusReplyRead {
 
 impl StatusReply {
     // Reads a Bind_rsp, Unbind_rsp or Mgmt_Leave_rsp: seq, status.
+    #[tactic(auto, using(zigbee_types::proofs::Runs::run_short), unfolding(zigbee_types::specs::Layout::size, crate::specs::Readers::status_widths, crate::specs::Readers::status_reply_in, crate::specs::Answers::status_reply_says))]
     pub fn try_read(reply: &[u8]) -> StatusReplyRead
         ensures { status_reply_says result ≡ status_reply_in reply.now }
     {
