@@ -11,11 +11,11 @@ record_matches-requires-clause-ep_value c = search laws
 pub returns-then-not-record_matches : goal.returns-then-not-record_matches
 returns-then-not-record_matches c = search laws
 
-pub returns-then-written-out : goal.returns-then-written-out
-returns-then-written-out c = search laws
-
 pub returns : goal.returns
 returns c = search laws
+
+pub returns-then-written-out : goal.returns-then-written-out
+returns-then-written-out c = search laws
 
 pub record_matches-requires-clause-payload_value : goal.record_matches-requires-clause-payload_value
 record_matches-requires-clause-payload_value c = search laws

@@ -34,9 +34,10 @@ loop-j-preserved c = (c.loop-j.invariant.0, among_next c.loop-j.invariant.1 (ome
 
 pub search-preserved : goal.search-preserved
 unfolding behind
-search-preserved c =
-    (c.loop-j.invariant.0,
-    asked_next c.search.invariant.1 (search rules) c.read_u16-cluster.ensures c.loop-j.invariant.1 (omega arith))
+search-preserved c = (
+  c.loop-j.invariant.0,
+  asked_next c.search.invariant.1 (search rules) c.read_u16-cluster.ensures c.loop-j.invariant.1 (omega arith),
+)
 
 pub returns-after-search : goal.returns-after-search
 unfolding behind
