@@ -455,7 +455,7 @@ fn word_end(line: &[u8], start: usize) -> usize
 fn find(bytes: &[u8], start: usize, wanted: u8) -> usize
     requires { start ≤ length bytes.now }
     ensures within { (start ≤ result) × (result ≤ length bytes.now) }
-    ensures before { (k : ℕ) → start ≤ k → k < result → slice_index bytes.now k ≢ wanted }
+    ensures before { (k : ℕ) → k < result → start ≤ k → slice_index bytes.now k ≢ wanted }
     ensures found { result < length bytes.now → slice_index bytes.now result ≡ wanted }
 {
     for i in start..bytes.len() {

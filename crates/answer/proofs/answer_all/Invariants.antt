@@ -1,0 +1,6 @@
+-- The buffer has room for every text.
+use Rattle.std.proofs.Common.{length, ◌≤◌}
+use Rattle.answer.proofs.answer_all.Given as goal
+
+abbrev pub invariant-loop-_ : goal.invariant-loop-_
+invariant-loop-_ l = 262 ≤ length l.out

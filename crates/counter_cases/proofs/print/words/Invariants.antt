@@ -1,0 +1,6 @@
+-- It goes through the numbers from the front.
+use Rattle.std.proofs.Common.{length, ◌-◌}
+use Rattle.counter_cases.proofs.print.words.Given as goal
+
+abbrev pub decreases-loop-i : goal.decreases-loop-i
+decreases-loop-i l = length l.words - l.i

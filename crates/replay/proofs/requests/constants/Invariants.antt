@@ -1,0 +1,6 @@
+-- It goes through the clusters from the front.
+use Rattle.std.proofs.Common.{◌-◌}
+use Rattle.replay.proofs.requests.constants.Given as goal
+
+abbrev pub decreases-loop-i : goal.decreases-loop-i
+decreases-loop-i l = 20 - l.i

@@ -1,0 +1,6 @@
+-- It goes through the list from the front.
+use Rattle.std.proofs.Common.{◌-◌}
+use Rattle.replay.proofs.requests.put_list.Given as goal
+
+abbrev pub decreases-loop-i : goal.decreases-loop-i
+decreases-loop-i l = l.list.count - l.i

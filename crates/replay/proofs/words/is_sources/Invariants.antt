@@ -1,0 +1,6 @@
+-- It goes through the word from the front.
+use Rattle.std.proofs.Common.{length, ◌-◌}
+use Rattle.replay.proofs.words.is_sources.Given as goal
+
+abbrev pub decreases-loop-i : goal.decreases-loop-i
+decreases-loop-i l = length l.word - l.i
