@@ -3,4 +3,4 @@ use Rattle.std.proofs.Common.{length, ◌≤◌}
 use Rattle.answer.proofs.answer_all.Given as goal
 
 abbrev pub invariant-loop-_ : goal.invariant-loop-_
-invariant-loop-_ l = 262 ≤ length l.out
+invariant-loop-_ g l = 262 ≤ length l.out

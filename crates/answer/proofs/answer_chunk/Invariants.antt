@@ -3,7 +3,7 @@ use Rattle.std.proofs.Common.{length, ◌-◌, ◌≤◌}
 use Rattle.answer.proofs.answer_chunk.Given as goal
 
 abbrev pub invariant-loop-at : goal.invariant-loop-at
-invariant-loop-at l = (l.end ≤ length l.out) × (262 ≤ length l.out)
+invariant-loop-at g l = (l.end ≤ length l.out) × (262 ≤ length l.out)
 
 abbrev pub decreases-loop-at : goal.decreases-loop-at
-decreases-loop-at l = length l.chunk - l.at
+decreases-loop-at g l = length l.chunk - l.at

@@ -3,4 +3,4 @@ use Rattle.std.proofs.Common.{length, ◌-◌}
 use Rattle.counter_cases.proofs.print.bytes.Given as goal
 
 abbrev pub decreases-loop-i : goal.decreases-loop-i
-decreases-loop-i l = length l.bytes - l.i
+decreases-loop-i g l = length l.bytes - l.i

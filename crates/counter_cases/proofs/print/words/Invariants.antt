@@ -3,4 +3,4 @@ use Rattle.std.proofs.Common.{length, ◌-◌}
 use Rattle.counter_cases.proofs.print.words.Given as goal
 
 abbrev pub decreases-loop-i : goal.decreases-loop-i
-decreases-loop-i l = length l.words - l.i
+decreases-loop-i g l = length l.words - l.i
