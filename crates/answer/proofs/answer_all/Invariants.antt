@@ -2,5 +2,5 @@
 use Rattle.std.proofs.Common.{length, ◌≤◌}
 use Rattle.answer.proofs.answer_all.Given as goal
 
-abbrev pub invariant-loop-_ : goal.invariant-loop-_
-invariant-loop-_ g l = 262 ≤ length l.out
+abbrev pub invariant-loop : goal.invariant-loop
+invariant-loop g l = 262 ≤ length l.out
