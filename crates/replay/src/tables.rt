@@ -1,5 +1,5 @@
 // The questions about device tables (oracle/README.md, "Device tables"). TABLES are three words: CLUSTERS CLUSTERS RECORDS.
-ghost use Rattle.std.specs.Prelude.{◌*◌, ◌≤◌, length};
+ghost use Rattle.std.specs.Prelude.{◌*◌, ◌^◌, ◌≤◌, ◌<◌, length};
 
 use crate::out::Text;
 use crate::words::{u8_at, u16_at};
@@ -330,7 +330,13 @@ fn record_of(word: &[u8], i: usize, unused: EndpointDescriptor) -> EndpointDescr
     if count_of(word) <= i {
         return unused;
     }
-    let at = 14 * i;
+    record_at(word, 14 * i)
+}
+
+// The record of a word that stands behind so many bytes.
+fn record_at(word: &[u8], at: usize) -> EndpointDescriptor
+    requires { at < 2 ^ 63 }
+{
     EndpointDescriptor {
         endpoint: u8_at(word, at),
         device_version: u8_at(word, at + 5),
