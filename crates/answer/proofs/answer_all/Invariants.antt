@@ -1,4 +1,4 @@
--- The buffer has room for every text.
+-- `answer_all` is safe and ends. The loop's invariant: the buffer has room for every text. Assumes nothing.
 use Rattle.std.proofs.Common.{length, ◌≤◌}
 use Rattle.answer.proofs.answer_all.Given as goal
 

@@ -1,4 +1,4 @@
--- The answer ends within the buffer, and a character is taken where there is one. Assumes nothing.
+-- `answer_behind` meets its contract: the answer ends within the buffer, and a character is taken where there is one. Assumes nothing.
 use Rattle.std.proofs.Common.{rules}
 use Rattle.answer.proofs.Behind.{turn_fits, turn_moves, turn_within}
 use Rattle.answer.proofs.answer_behind.Goals as goal

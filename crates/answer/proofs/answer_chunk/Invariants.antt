@@ -1,4 +1,5 @@
--- What waits lies within the buffer, which has room for every text.
+-- `answer_chunk` is safe and ends. The loop's invariant: what waits lies within the buffer, which has room for every text. The
+-- measure is how many characters of the chunk are left. Assumes nothing.
 use Rattle.std.proofs.Common.{length, ◌-◌, ◌≤◌}
 use Rattle.answer.proofs.answer_chunk.Given as goal
 

@@ -1,4 +1,4 @@
--- The last lines end within the buffer. Assumes nothing.
+-- `finish` is safe: the last lines end within the buffer. Assumes nothing.
 use Rattle.std.proofs.Common.{rules}
 use Rattle.answer.proofs.Behind.{told_within}
 use Rattle.answer.proofs.finish.Goals as goal

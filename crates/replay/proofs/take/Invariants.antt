@@ -1,4 +1,4 @@
--- It goes through the input from the front.
+-- `take` is safe and ends: it goes through the input from the front. Assumes nothing.
 use Rattle.std.proofs.Common.{length, ◌-◌}
 use Rattle.replay.proofs.take.Given as goal
 

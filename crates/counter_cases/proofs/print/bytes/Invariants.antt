@@ -1,4 +1,4 @@
--- It goes through the bytes from the front.
+-- `print::bytes` is safe and ends: it goes through the bytes from the front. Assumes nothing.
 use Rattle.std.proofs.Common.{length, ◌-◌}
 use Rattle.counter_cases.proofs.print.bytes.Given as goal
 

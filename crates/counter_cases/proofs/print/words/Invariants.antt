@@ -1,4 +1,4 @@
--- It goes through the numbers from the front.
+-- `print::words` is safe and ends: it goes through the numbers from the front. Assumes nothing.
 use Rattle.std.proofs.Common.{length, ◌-◌}
 use Rattle.counter_cases.proofs.print.words.Given as goal
 

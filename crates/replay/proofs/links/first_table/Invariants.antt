@@ -1,4 +1,5 @@
--- It goes through the places from the front, up to the limit.
+-- `first_table` answers a table that holds at most 32 entries. It goes through the places from the front, up to the limit.
+-- Assumes nothing.
 use Rattle.std.proofs.Common.{◌-◌, ◌≤◌}
 use Rattle.replay.proofs.links.first_table.Given as goal
 

@@ -1,4 +1,4 @@
--- It goes through the places from the front.
+-- `put_table` is safe and ends: it goes through the places from the front. Assumes nothing.
 use Rattle.std.proofs.Common.{◌-◌}
 use Rattle.replay.proofs.links.put_table.Given as goal
 

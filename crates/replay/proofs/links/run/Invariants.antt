@@ -1,4 +1,4 @@
--- It goes through the words from the one behind those passed.
+-- `run` is safe and ends: it goes through the line's words from the one behind those passed. Assumes nothing.
 use Rattle.std.proofs.Common.{◌-◌}
 use Rattle.replay.proofs.links.run.Given as goal
 

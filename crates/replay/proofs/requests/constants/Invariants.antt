@@ -1,4 +1,4 @@
--- It goes through the clusters from the front.
+-- `constants` is safe and ends: it goes through the clusters from the front. Assumes nothing.
 use Rattle.std.proofs.Common.{◌-◌}
 use Rattle.replay.proofs.requests.constants.Given as goal
 

@@ -1,4 +1,4 @@
--- It goes through the list from the front.
+-- `put_list` is safe and ends: it goes through the list from the front. Assumes nothing.
 use Rattle.std.proofs.Common.{◌-◌}
 use Rattle.replay.proofs.requests.put_list.Given as goal
 

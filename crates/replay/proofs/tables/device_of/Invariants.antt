@@ -1,4 +1,4 @@
--- It goes through the places of the records from the front.
+-- `device_of` is safe and ends: it goes through the places of the records from the front. Assumes nothing.
 use Rattle.std.proofs.Common.{◌-◌}
 use Rattle.replay.proofs.tables.device_of.Given as goal
 

@@ -1,4 +1,4 @@
--- It goes through the clusters from the front.
+-- `put_clusters` is safe and ends: it goes through the clusters from the front. Assumes nothing.
 use Rattle.std.proofs.Common.{length, ◌-◌}
 use Rattle.replay.proofs.tables.put_clusters.Given as goal
 

@@ -1,4 +1,5 @@
--- Each space that was counted stands before the place.
+-- `arguments` is safe and ends: it goes through the line from the front, and counts no more spaces than it has passed characters.
+-- Assumes nothing.
 use Rattle.std.proofs.Common.{length, ◌-◌, ◌≤◌}
 use Rattle.replay.proofs.words.arguments.Given as goal
 

@@ -1,4 +1,4 @@
--- It goes through the question from the front.
+-- `asks` is safe and ends: a word begins behind a space of the line, and each turn goes on in the question. Assumes nothing.
 use Rattle.std.proofs.Common.{length, ◌-◌}
 use Rattle.replay.proofs.words.asks.Given as goal
 

@@ -1,4 +1,4 @@
--- It goes through the places from the front.
+-- `clusters_in` answers a count of the slice's clusters, and the slice keeps its length. Assumes nothing.
 use Rattle.std.proofs.Common.{length, ◌-◌, ◌≤◌}
 use Rattle.replay.proofs.words.clusters_in.Given as goal
 

@@ -1,4 +1,4 @@
--- No byte from the start up to the place is the one that is sought.
+-- `find` answers the first such place: no byte from the start up to the loop's place is the one that is wanted. Assumes nothing.
 use Rattle.std.proofs.Common.{ℕ, get_or, ◌≤◌, ◌<◌, ◌≡◌}
 use Rattle.replay.proofs.words.find.Given as goal
 

@@ -1,4 +1,4 @@
--- It goes through the word from the front.
+-- `has_digits` is safe and ends: it goes through the word from the front. Assumes nothing.
 use Rattle.std.proofs.Common.{length, ◌-◌}
 use Rattle.replay.proofs.words.has_digits.Given as goal
 

@@ -1,4 +1,4 @@
--- It goes through the word from the front.
+-- `is_sources` is safe and ends: it goes through the word from the front. Assumes nothing.
 use Rattle.std.proofs.Common.{length, ◌-◌}
 use Rattle.replay.proofs.words.is_sources.Given as goal
 

@@ -1,4 +1,4 @@
--- The place in the word is at most two bytes for each place in the slice, and one more.
+-- `last_in` answers a count of the slice's bytes, and the slice keeps its length. Assumes nothing.
 use Rattle.std.proofs.Common.{length, ◌+◌, ◌-◌, ◌≤◌, ◌*◌}
 use Rattle.replay.proofs.words.last_in.Given as goal
 

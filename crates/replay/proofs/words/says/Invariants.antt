@@ -1,4 +1,4 @@
--- It goes through the bytes from the front.
+-- `says` is safe and ends: it goes through the bytes from the front. Assumes nothing.
 use Rattle.std.proofs.Common.{length, ◌-◌}
 use Rattle.replay.proofs.words.says.Given as goal
 

@@ -1,4 +1,4 @@
--- Each question has a character or a `;` at least.
+-- `which` is safe and ends: each turn goes on behind a `;`, and no more questions are passed than characters. Assumes nothing.
 use Rattle.std.proofs.Common.{length, ◌-◌, ◌≤◌}
 use Rattle.replay.proofs.words.which.Given as goal
 

@@ -1,4 +1,4 @@
--- The place is within the line.
+-- `word_start` answers a place of the line. Each turn goes on behind a space, which stands before the end. Assumes nothing.
 use Rattle.std.proofs.Common.{length, ◌-◌, ◌≤◌}
 use Rattle.replay.proofs.words.word_start.Given as goal
 
