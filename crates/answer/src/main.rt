@@ -79,12 +79,7 @@ fn answer_chunk(
 
 // The end of the input: answers the last line, if it has a character, and tells how many entries the binding table holds. (The buffer
 // has room for that.)
-fn finish(
-    rt: &impl Print,
-    session: Session,
-    line: &[u8; LINE],
-    out: &mut [u8],
-) -> io::Result<()> {
+fn finish(rt: &impl Print, session: Session, line: &[u8; LINE], out: &mut [u8]) -> io::Result<()> {
     let written = session.end(line, out);
     if let Written::Length(n) = written {
         write_out(rt, out, n)?;
