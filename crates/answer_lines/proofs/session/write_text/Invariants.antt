@@ -8,7 +8,7 @@ use Rattle.lines.specs.Chunks.{found_line}
 use Rattle.lines.specs.Lines.{whole}
 use Rattle.lines.specs.Splitter.{pending}
 use Rattle.our_device.specs.OurDevice.{ours}
-use Rattle.answer_lines.specs.Session.{LINE, heard, said, spoken, count_text, closing, session, refusal_text, response_text, Inside, Ends, Tells}
+use Rattle.answer_lines.specs.Session.{LINE_NUMBER, heard, said, spoken, count_text, closing, session, refusal_text, response_text, Inside, Ends, Tells}
 use Rattle.answer_lines.specs.Turns.{new_session, taken_within, Turns, ending}
 use Rattle.answer_lines.proofs.session.write_text.Given as goal
 use Rattle.answer_lines.proofs.Texts.{text_full, Copied, copied_first, copied_room, copied_next, copied_end}
