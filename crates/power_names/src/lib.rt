@@ -39,6 +39,7 @@ impl CurrentPowerMode {
     }
 
     // The mode that a number names.
+    #[tactic(auto, unfolding(crate::specs::Names::current_power_mode_of, zigbee_types::specs::Named::named, zigbee_types::specs::Lists::option, zigbee_types::specs::Lists::find))]
     pub fn from_bits(bits: u8) -> CurrentPowerMode
         ensures { result ≡ current_power_mode_of bits }
     {
@@ -82,6 +83,7 @@ impl PowerSource {
     }
 
     // The source that a number names.
+    #[tactic(auto, unfolding(crate::specs::Names::power_source_of, zigbee_types::specs::Named::named, zigbee_types::specs::Lists::option, zigbee_types::specs::Lists::find))]
     pub fn from_bits(bits: u8) -> PowerSource
         ensures { result ≡ power_source_of bits }
     {
@@ -139,6 +141,7 @@ impl CurrentPowerSourceLevel {
     }
 
     // The level that a number names.
+    #[tactic(auto, unfolding(crate::specs::Names::current_power_source_level_of, zigbee_types::specs::Named::named, zigbee_types::specs::Lists::option, zigbee_types::specs::Lists::find))]
     pub fn from_bits(bits: u8) -> CurrentPowerSourceLevel
         ensures { result ≡ current_power_source_level_of bits }
     {

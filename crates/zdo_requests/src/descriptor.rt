@@ -244,6 +244,7 @@ pub fn parse_ieee_addr_req(asdu: &[u8]) -> IeeeAddrReqRead
 // ---- the address of interest
 
 // Parses a Node_Desc_req, Power_Desc_req or Active_EP_req (2.4.3.1.3, 2.4.3.1.4, 2.4.3.1.6): seq, NWKAddrOfInterest(2).
+#[tactic(auto, using(zigbee_types::proofs::Runs::run_short), unfolding(zigbee_types::specs::Layout::size, crate::specs::Requests::addr_of_interest_widths, crate::specs::Requests::addr_of_interest_req_in, crate::specs::Answers::addr_of_interest_req_says))]
 pub fn parse_addr_of_interest_req(asdu: &[u8]) -> AddrOfInterestReqRead
     ensures { addr_of_interest_req_says result ≡ addr_of_interest_req_in asdu.now }
 {
