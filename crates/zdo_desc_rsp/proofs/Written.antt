@@ -8,8 +8,9 @@ use lib.ListN.{length}
 use lib.Seq.{length-sets}
 use mir.Syntax.{w64}
 use mir.Val.{Fits}
+use borrow.Author.Tests.{lt-leb}
 use borrow.Rule.Slice.PartMut.{mid_of, put_mid}
-use Rattle.zigbee_types.specs.Outcome.{Outcome, answer, mapped, Wrote}
+use Rattle.zigbee_types.specs.Outcome.{Outcome, answer, refusal, mapped, fitted, Wrote}
 use Rattle.zigbee_types.specs.Answers.{written_says}
 use Rattle.zigbee_types.specs.Bytes.{le, FieldPut}
 use Rattle.zigbee_types.specs.Layout.{Field, laid, size, FieldsPut}
@@ -44,6 +45,13 @@ module _ (seq status : ℕ) (a : ShortAddress) {s t : List ℕ} {m : ℕ} (p : F
       {n : ℕ} {u : List ℕ} → FieldPut 1 0 t m n u → 5 ≤ length s → Wrote (empty_rsp seq status a) s (written_says (Length n)) u
   unfolding empty_rsp written_says header size
   empty_writes q h = run_writes (run_put_last p q) h
+
+-- an error of node or power: refused where there is no room for it
+pub error_cut : (seq status : ℕ) (a : ShortAddress) (n : ℕ) → n < 4 → fitted n (descriptor_rsp_error seq status a) ≡ refusal 5
+unfolding fitted descriptor_rsp_error header size
+error_cut seq status a n h =
+    let short : n < length (laid (header seq status a)) = rw (laid_counted (header seq status a)) h in
+    rw (lt-leb _ _ short)
 
 -- where the writer of the later part told a length, the sum is one that the machine has
 pub whole_fits :

@@ -73,6 +73,7 @@ pub fn power_desc_rsp(
 
 // Builds a Node_Desc_rsp or Power_Desc_rsp reporting an error (2.4.4.2.3, 2.4.4.2.4): seq, status, NWKAddrOfInterest; the
 // descriptor is only present on success.
+#[tactic(auto, using(crate::proofs::Written::error_cut), unfolding(zigbee_types::specs::Outcome::mapped, zigbee_types::specs::Outcome::written, zigbee_types::specs::Answers::written_says))]
 pub fn descriptor_rsp_error(
     seq: u8,
     error: DiscoveryError,

@@ -6,7 +6,7 @@ use mathlib.Core.List.{List, ◌++◌, map, append_assoc}
 use lib.ListN.{length, take, drop, length-append}
 use lib.Seq.{sets, sets-eq, length-sets, length-take-le}
 use borrow.Author.Tests.{le-leb, lt-leb}
-use Rattle.zigbee_types.specs.Outcome.{Outcome, answer, mapped, fitted, written, Wrote}
+use Rattle.zigbee_types.specs.Outcome.{Outcome, answer, refusal, mapped, fitted, written, Wrote}
 use Rattle.zigbee_types.specs.Answers.{written_says}
 use Rattle.zigbee_types.specs.Bytes.{FieldPut}
 use Rattle.zigbee_types.specs.Layout.{byte, laid, size, FieldsPut}
@@ -20,7 +20,7 @@ use Rattle.zigbee_types.proofs.Entries.{EntriesPut, entries_all}
 use Rattle.zigbee_types.proofs.Layouts.{laid_counted, size_entries}
 use Rattle.zigbee_types.proofs.Runs.{run_put_told, run_put_both, run_writes, run_full}
 use Rattle.zdo_desc_rsp.proofs.Written.{header_place}
-use Rattle.zdo_replies.specs.Replies.{header, endpoint_list, list_rsp}
+use Rattle.zdo_replies.specs.Replies.{header, endpoint_list, list_rsp, match_error_fields, match_desc_rsp_error}
 
 -- ---- bytes behind a place
 
@@ -110,3 +110,12 @@ module _ (seq : ℕ) (a : ShortAddress) (xs s : List ℕ) where
       let room : n + length xs ≤ length u = omega (arith, put_counted q) in
       let (said, put) = append_put n u xs (omega arith) room w in
       rw said (list_writes p e q put h)
+
+-- ---- an error
+
+-- refused where there is no room for it
+pub error_cut : (seq status n : ℕ) → n < 3 → fitted n (match_desc_rsp_error seq status) ≡ refusal 5
+unfolding fitted match_desc_rsp_error match_error_fields size
+error_cut seq status n h =
+    let short : n < length (laid (match_error_fields seq status)) = rw (laid_counted (match_error_fields seq status)) h in
+    rw (lt-leb _ _ short)

@@ -61,6 +61,7 @@ pub fn match_desc_rsp(seq: u8, nwk_addr: ShortAddress, matches: &[u8], out: &mut
 }
 
 // Builds a Match_Desc_rsp reporting an error (2.4.4.2.7): seq, status and a MatchLength of zero, without NWKAddrOfInterest.
+#[tactic(auto, using(crate::proofs::Written::error_cut), unfolding(zigbee_types::specs::Outcome::mapped, zigbee_types::specs::Outcome::written, zigbee_types::specs::Answers::written_says))]
 pub fn match_desc_rsp_error(seq: u8, error: DiscoveryError, out: &mut [u8]) -> Written
     ensures { Wrote (match_desc_rsp_error seq (discovery_code error)) out.old (written_says result) out.new }
 {
