@@ -34,6 +34,7 @@ impl EndpointDescriptor {
     }
 
     // The record's part of the pool of one side. Those who call it have checked the tables.
+    #[tactic(auto, using(crate::proofs::Clusters::inputs_fit, crate::proofs::Clusters::outputs_fit))]
     pub fn clusters<'a>(self, side: Side, inputs: &'a [u16], outputs: &'a [u16]) -> &'a [u16]
         requires { record_fits (pools inputs.now outputs.now) self ≡ true }
         ensures { result.now ≡ clusters_of side (endpoint_of (pools inputs.now outputs.now) self) }
