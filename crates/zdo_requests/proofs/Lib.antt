@@ -1,2 +1,3 @@
 pub mod Parsed
 pub mod Named
+pub mod Written

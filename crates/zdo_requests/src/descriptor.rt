@@ -292,6 +292,7 @@ pub fn parse_simple_desc_req(asdu: &[u8]) -> SimpleDescReqRead
 
 // Writes a Node_Desc_req (2.4.3.1.3) at the front of a buffer: seq, NWKAddrOfInterest(2). Too short a buffer is refused, and
 // nothing is written.
+#[tactic(auto, using(crate::proofs::Written::request_cut), unfolding(zigbee_types::specs::Outcome::mapped, zigbee_types::specs::Outcome::written, zigbee_types::specs::Answers::written_says))]
 pub fn node_desc_req(seq: u8, nwk_addr_of_interest: ShortAddress, out: &mut [u8]) -> Written
     ensures { Wrote (node_desc_req seq nwk_addr_of_interest) out.old (written_says result) out.new }
 {
