@@ -3,29 +3,33 @@
 // that whoever types a line sees its answer.
 #![tactic(auto)]
 
-ghost use Rattle.std.specs.Prelude.{◌+◌, ◌≤◌, ◌<◌, length};
+ghost use Rattle.std.specs.Prelude.{◌+◌, ◌≤◌, ◌<◌, length, IfOk};
 
 use answer_lines::session::{LINE, Session, TEXT, Turn, line_buffer};
-use libc::{STDIN_FILENO, STDOUT_FILENO};
+use std::io;
+use std::io::Read;
 use zigbee_types::Written;
 
+// How many bytes the input's buffer has, and how many the answers' has.
+const CHUNK: usize = 65536;
+
 // Writes out what waits.
-fn write_out(out: &[u8], end: usize)
+fn write_out(rt: &impl Print, out: &[u8], end: usize) -> io::Result<()>
     requires { end ≤ length out.now }
 {
-    io::write_all(STDOUT_FILENO, &out[..end]);
+    rt.write_all(&out[..end])
 }
 
 // Writes out what waits where there is no room for the longest text behind it, and tells how much waits then.
-fn make_room(out: &[u8], end: usize) -> usize
+fn make_room(rt: &impl Print, out: &[u8], end: usize) -> io::Result<usize>
     requires { (end ≤ length out.now) × (262 ≤ length out.now) }
-    ensures { result + 262 ≤ length out.now }
+    ensures { IfOk result (λ waits. waits + 262 ≤ length out.now) }
 {
     if out.len() - end < TEXT {
-        write_out(out, end);
-        return 0;
+        write_out(rt, out, end)?;
+        return Ok(0);
     }
-    end
+    Ok(end)
 }
 
 // A turn whose answer is written behind what waits; the length that it tells is that of all that waits then.
@@ -50,55 +54,64 @@ fn answer_behind(
 }
 
 // Answers the lines that end in a chunk, turn by turn, and writes the answers out.
-fn answer_chunk(begun: Session, chunk: &[u8], line: &mut [u8; LINE], out: &mut [u8]) -> Session
+fn answer_chunk(
+    rt: &impl Print,
+    begun: Session,
+    chunk: &[u8],
+    line: &mut [u8; LINE],
+    out: &mut [u8],
+) -> io::Result<Session>
     requires { 262 ≤ length out.old }
 {
     let mut session = begun;
     let mut at: usize = 0;
     let mut end: usize = 0;
     while at < chunk.len() {
-        end = make_room(out, end);
+        end = make_room(rt, out, end)?;
         let turn = answer_behind(session, chunk, at, line, out, end);
         session = turn.session;
         at = turn.at;
         end = turn.length;
     }
-    write_out(out, end);
-    session
+    write_out(rt, out, end)?;
+    Ok(session)
 }
 
 // The end of the input: answers the last line, if it has a character, and tells how many entries the binding table holds. (The buffer
 // has room for that.)
-fn finish(session: Session, line: &[u8; LINE], out: &mut [u8]) {
+fn finish(rt: &impl Print, session: Session, line: &[u8; LINE], out: &mut [u8]) -> io::Result<()> {
     let written = session.end(line, out);
     if let Written::Length(n) = written {
-        write_out(out, n);
+        write_out(rt, out, n)?;
     }
+    Ok(())
 }
 
-// Reads to the end of the input, chunk by chunk. A proved loop has to end, so this one counts down from a number of reads that no
-// input takes.
-fn answer_all(input: &mut [u8], line: &mut [u8; LINE], out: &mut [u8])
+// Reads to the end of the input, chunk by chunk. A proved loop has to end, so this one has a number of reads that no input takes.
+fn answer_all(
+    rt: &(impl Input + Print),
+    input: &mut [u8],
+    line: &mut [u8; LINE],
+    out: &mut [u8],
+) -> io::Result<()>
     requires { 262 ≤ length out.old }
 {
+    let mut reader = rt.reader();
     let mut session = Session::new();
-    let mut reads = u64::MAX;
-    while reads > 0 {
-        let got = libc::read(STDIN_FILENO, input);
-        let read = io::count(got, input);
+    for _ in 0..u64::MAX {
+        let read = reader.read(input)?;
         if read == 0 {
-            finish(session, line, out);
-            return;
+            return finish(rt, session, line, out);
         }
-        session = answer_chunk(session, &input[..read], line, out);
-        reads -= 1;
+        session = answer_chunk(rt, session, &input[..read], line, out)?;
     }
+    Ok(())
 }
 
 // The input, the answers that wait and the line that has begun have a buffer each.
-fn main() {
-    let mut input = io::large_buffer();
-    let mut out = io::large_buffer();
+fn main(rt: HostRuntime) -> io::Result<()> {
+    let mut input = [0u8; CHUNK];
+    let mut out = [0u8; CHUNK];
     let mut line = line_buffer();
-    answer_all(&mut input, &mut line, &mut out);
+    answer_all(&rt, &mut input, &mut line, &mut out)
 }

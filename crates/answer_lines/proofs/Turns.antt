@@ -17,7 +17,7 @@ use Rattle.lines.specs.declared.splitter.Split.{Split}
 use Rattle.lines.specs.declared.splitter.Splitter.{Splitter}
 use Rattle.lines.proofs.Chunks.{chunks_join}
 use Rattle.our_device.specs.OurDevice.{ours}
-use Rattle.answer_lines.specs.Session.{LIMIT, TEXT, Tells, said, spoken, session, answers}
+use Rattle.answer_lines.specs.Session.{LIMIT_NUMBER, TEXT_NUMBER, Tells, said, spoken, session, answers}
 use Rattle.answer_lines.specs.declared.session.Session.{Session}
 use Rattle.answer_lines.proofs.Closing.{copy_written}
 use Rattle.answer_lines.proofs.Found.{nothing_written}
@@ -28,7 +28,7 @@ use Rattle.answer_lines.specs.Turns.{new_session, said_for, taken_within, Turns,
 -- an empty table and a splitter with no line are a session
 pub session_new :
     {t : BindingTable} {s : Splitter}
-    → t ≡ empty_table LIMIT
+    → t ≡ empty_table LIMIT_NUMBER
     → s ≡ record { count = 0 }
     → record { table = t; splitter = s } ≡ new_session
 session_new empty none i = record { table = empty i; splitter = none i }
@@ -83,7 +83,7 @@ in_parts h t (line ∷ lines) more =
 -- so turn by turn the lines that the splitter tells are answered
 by_turns :
     (turns : ℕ) (room : ℕ → ℕ) (p : Pending) (t : BindingTable) (at : ℕ) (chunks : List (List ℕ))
-    → ((turn : ℕ) → TEXT ≤ room turn)
+    → ((turn : ℕ) → TEXT_NUMBER ≤ room turn)
     → in_turns turns room p t at chunks ≡ session ours t (run turns p at chunks)
 unfolding in_turns run taken_within said_for ending
 by_turns zero room p t at chunks h = refl
@@ -93,7 +93,7 @@ by_turns (suc turns) room p t at (chunk ∷ chunks) h =
     let found = found_line taken.found taken.rest.buffer in
     let left = read_to (at + taken.taken) chunk chunks in
     rw (
-      le-leb TEXT (room turns) (h turns),
+      le-leb TEXT_NUMBER (room turns) (h turns),
       in_parts ours t found (run turns taken.rest left.at left.chunks),
       by_turns turns room taken.rest (spoken ours t found).table left.at left.chunks h,
     )

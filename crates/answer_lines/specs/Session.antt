@@ -15,16 +15,16 @@ use Rattle.decimal.specs.Decimal.{decimal}
 use Rattle.our_device.specs.OurDevice.{ours}
 
 -- the reply's buffer has so many bytes
-abbrev pub ROOM : ℕ
-ROOM = 128
+abbrev pub ROOM_NUMBER : ℕ
+ROOM_NUMBER = 128
 
 -- a line has at most so many characters
-abbrev pub LINE : ℕ
-LINE = 4096
+abbrev pub LINE_NUMBER : ℕ
+LINE_NUMBER = 4096
 
 -- the binding table holds at most so many entries
-abbrev pub LIMIT : ℕ
-LIMIT = 32
+abbrev pub LIMIT_NUMBER : ℕ
+LIMIT_NUMBER = 32
 
 -- ---- one line
 
@@ -54,7 +54,7 @@ pub record Said : Type 0 where
 -- of a request: what it comes to
 unfoldable pub heard : Host → BindingTable → Request → Said
 heard h t q =
-    let o = answered h t (record { cluster = q.cluster; payload = q.payload; room = ROOM }) in
+    let o = answered h t (record { cluster = q.cluster; payload = q.payload; room = ROOM_NUMBER }) in
     record { text = text_of o; table = table_after t o }
 
 -- of a line that is no request: `?`
@@ -96,7 +96,7 @@ session h t lines =
 
 -- what the program writes for its input: it begins with an empty table
 unfoldable pub answers : List ℕ → List ℕ
-answers input = session ours (empty_table LIMIT) (lines_within LINE input)
+answers input = session ours (empty_table LIMIT_NUMBER) (lines_within LINE_NUMBER input)
 
 -- ---- with a buffer for the text
 
@@ -123,8 +123,8 @@ pub record Ends (told : Outcome ℕ) (before : List ℕ) (more : Outcome ℕ) (a
   pub left : after ≡ line_end before told
 
 -- room for any text: cluster, space, two digits for each byte of a full reply buffer, line feed
-abbrev pub TEXT : ℕ
-TEXT = 262
+abbrev pub TEXT_NUMBER : ℕ
+TEXT_NUMBER = 262
 
 -- lines are answered: the text is written, which has at most so many characters, and the table is the one after it
 pub record Tells (s : Said) (most : ℕ) (before : List ℕ) (told : Outcome ℕ) (u : BindingTable) (after : List ℕ) : Type 0 where

@@ -8,13 +8,13 @@ use Rattle.lines.specs.Splitter.{Pending, pending, Taken, split, last}
 use Rattle.lines.specs.Chunks.{found_line, read_to, joined}
 use Rattle.lines.specs.declared.splitter.Found.TheVariants.{Nothing}
 use Rattle.our_device.specs.OurDevice.{ours}
-use Rattle.answer_lines.specs.Session.{LINE, LIMIT, TEXT, Said, spoken, session, answers}
+use Rattle.answer_lines.specs.Session.{LINE_NUMBER, LIMIT_NUMBER, TEXT_NUMBER, Said, spoken, session, answers}
 use Rattle.answer_lines.specs.declared.session.Session.{Session}
 use Rattle.answer_lines.specs.declared.session.Turn.{Turn}
 
 -- before the first turn: no binding, and no line that has begun
 abbrev pub new_session : Session
-new_session = record { table = empty_table LIMIT; splitter = record { count = 0 } }
+new_session = record { table = empty_table LIMIT_NUMBER; splitter = record { count = 0 } }
 
 -- ---- one turn
 
@@ -24,7 +24,7 @@ said_for t taken = spoken ours t (found_line taken.found taken.rest.buffer)
 
 -- what is taken of a chunk, with so much room for the answer: nothing, where there is not room for every text
 unfoldable pub taken_within : ℕ → Pending → List ℕ → Taken
-taken_within room p chunk = cond (leb TEXT room) (split p chunk) (record { found = Nothing; rest = p; taken = 0 })
+taken_within room p chunk = cond (leb TEXT_NUMBER room) (split p chunk) (record { found = Nothing; rest = p; taken = 0 })
 
 -- a turn in which that was taken from a place on: the text is written and its length told; the table and the line that has begun, after
 -- it; and the place behind what was taken
@@ -58,7 +58,7 @@ in_turns (suc turns) room p t at (chunk ∷ chunks) =
 abbrev pub AnswersJoin : Type 0
 AnswersJoin =
     (buffer : List ℕ) (chunks : List (List ℕ)) (turns : ℕ) (room : ℕ → ℕ)
-    → length buffer ≡ LINE
-    → ((turn : ℕ) → TEXT ≤ room turn)
+    → length buffer ≡ LINE_NUMBER
+    → ((turn : ℕ) → TEXT_NUMBER ≤ room turn)
     → length (joined chunks) + length chunks < turns
     → in_turns turns room (pending new_session.splitter.count buffer) new_session.table 0 chunks ≡ answers (joined chunks)

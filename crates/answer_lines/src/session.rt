@@ -7,7 +7,7 @@ ghost use Rattle.lines.specs.Chunks.{found_line};
 ghost use Rattle.lines.specs.Lines.{whole};
 ghost use Rattle.lines.specs.Splitter.{pending};
 ghost use Rattle.our_device.specs.OurDevice.{ours};
-ghost use Rattle.answer_lines.specs.Session.{LINE, heard, said, spoken, count_text, closing, session, refusal_text, response_text, Inside, Ends, Tells};
+ghost use Rattle.answer_lines.specs.Session.{LINE_NUMBER, heard, said, spoken, count_text, closing, session, refusal_text, response_text, Inside, Ends, Tells};
 ghost use Rattle.answer_lines.specs.Turns.{new_session, taken_within, Turns, ending};
 
 use aps_binding_table::binding::BindingTable;
@@ -67,7 +67,7 @@ struct Spoken {
 
 // A buffer for the longest line.
 pub fn line_buffer() -> [u8; LINE]
-    ensures { result ≡ replicate LINE 0 }
+    ensures { result ≡ replicate LINE_NUMBER 0 }
 {
     [0; LINE]
 }

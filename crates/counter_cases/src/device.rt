@@ -4,6 +4,7 @@
 ghost use Rattle.std.specs.Prelude.{◌≤◌};
 
 use crate::{descriptors, print};
+use std::io;
 use zdo_device::descriptor::{DeviceDescriptorConfig, EndpointDescriptor, OptionEndpoint, Side};
 use zdo_device_rsp::descriptor::{active_ep_rsp, simple_desc_rsp};
 use zigbee_types::ShortAddress;
@@ -64,56 +65,56 @@ pub(crate) fn our_device(count: usize) -> DeviceDescriptorConfig {
 }
 
 // The simple replies of endpoint 1, of endpoint 2, and of a number that no record in use has, at last with a bad pool.
-pub(crate) fn k5() {
-    three_rooms(b"K5 reply", 1, 19);
-    print_our_simple(b"simple reply of 2", 2, 17);
-    three_rooms(b"simple reply of 3", 3, 5);
+pub(crate) fn k5(rt: &impl Print) -> io::Result<()> {
+    three_rooms(rt, b"K5 reply", 1, 19)?;
+    print_our_simple(rt, b"simple reply of 2", 2, 17)?;
+    three_rooms(rt, b"simple reply of 3", 3, 5)?;
     let device = our_device(2);
-    print_simple(b"of 3, short outputs", device, 3, &INPUTS, &[], 4);
+    print_simple(rt, b"of 3, short outputs", device, 3, &INPUTS, &[], 4)
 }
 
 // Lines for the simple reply of our device: in a buffer with two bytes to spare, in one of the reply's length, and in one of a byte
 // less.
-fn three_rooms(name: &[u8], number: u8, length: usize)
+fn three_rooms(rt: &impl Print, name: &[u8], number: u8, length: usize) -> io::Result<()>
     requires { (1 ≤ length) × (length ≤ 69) }
 {
-    print_our_simple(name, number, length + 2);
-    print_our_simple(name, number, length);
-    print_our_simple(name, number, length - 1);
+    print_our_simple(rt, name, number, length + 2)?;
+    print_our_simple(rt, name, number, length)?;
+    print_our_simple(rt, name, number, length - 1)
 }
 
 // A line for the simple reply of our device.
-fn print_our_simple(name: &[u8], number: u8, room: usize)
+fn print_our_simple(rt: &impl Print, name: &[u8], number: u8, room: usize) -> io::Result<()>
     requires { room ≤ 71 }
 {
-    print_simple(name, our_device(2), number, &INPUTS, &OUTPUTS, room);
+    print_simple(rt, name, our_device(2), number, &INPUTS, &OUTPUTS, room)
 }
 
 // The simple replies of 27 inputs and an output, and of an input more: for this there is room, there is not, and its pool is too
 // short as well.
-pub(crate) fn k6() {
-    print_28(70);
-    print_28(69);
-    print_28(68);
-    print_zeros(b"K6 reply of 29", 28, 71);
-    print_zeros(b"K6 reply of 29", 28, 4);
+pub(crate) fn k6(rt: &impl Print) -> io::Result<()> {
+    print_28(rt, 70)?;
+    print_28(rt, 69)?;
+    print_28(rt, 68)?;
+    print_zeros(rt, b"K6 reply of 29", 28, 71)?;
+    print_zeros(rt, b"K6 reply of 29", 28, 4)?;
     let device = device_of_inputs(28);
-    print_simple(b"K6 short pool", device, 1, &[0; 27], &OUTPUTS, 4);
+    print_simple(rt, b"K6 short pool", device, 1, &[0; 27], &OUTPUTS, 4)
 }
 
 // A line for the simple reply of 28 clusters.
-fn print_28(room: usize)
+fn print_28(rt: &impl Print, room: usize) -> io::Result<()>
     requires { room ≤ 71 }
 {
-    print_zeros(b"K6 reply of 28", 27, room);
+    print_zeros(rt, b"K6 reply of 28", 27, room)
 }
 
 // A line for the simple reply of so many inputs, of a pool of 28 zeros, and an output.
-fn print_zeros(name: &[u8], count: u16, room: usize)
+fn print_zeros(rt: &impl Print, name: &[u8], count: u16, room: usize) -> io::Result<()>
     requires { room ≤ 71 }
 {
     let device = device_of_inputs(count);
-    print_simple(name, device, 1, &[0; 28], &OUTPUTS, room);
+    print_simple(rt, name, device, 1, &[0; 28], &OUTPUTS, room)
 }
 
 // A device of one endpoint, which is our endpoint 1 but for its number of inputs.
@@ -127,92 +128,105 @@ pub(crate) fn device_of_inputs(count: u16) -> DeviceDescriptorConfig {
 
 // Our endpoints, and a number that we have not; endpoint 2 where one record is in use; a number that none of the 32 records has,
 // where the count says that there are more; and the active replies of our device and of one without records.
-pub(crate) fn others() {
-    print_our_endpoint(b"our", 2, 1);
-    print_our_endpoint(b"our", 2, 2);
-    print_our_endpoint(b"our", 2, 3);
-    print_our_endpoint(b"unused", 1, 2);
-    print_our_endpoint(b"largest count", 0xFFFFFFFFFFFFFFFF, 3);
-    active_replies();
+pub(crate) fn others(rt: &impl Print) -> io::Result<()> {
+    print_our_endpoint(rt, b"our", 2, 1)?;
+    print_our_endpoint(rt, b"our", 2, 2)?;
+    print_our_endpoint(rt, b"our", 2, 3)?;
+    print_our_endpoint(rt, b"unused", 1, 2)?;
+    print_our_endpoint(rt, b"largest count", 0xFFFFFFFFFFFFFFFF, 3)?;
+    active_replies(rt)
 }
 
 // A line for an endpoint number of our device, with so many records in use.
-fn print_our_endpoint(name: &[u8], count: usize, number: u8) {
-    print_endpoint(name, our_device(count), number, &INPUTS, &OUTPUTS);
+fn print_our_endpoint(rt: &impl Print, name: &[u8], count: usize, number: u8) -> io::Result<()> {
+    print_endpoint(rt, name, our_device(count), number, &INPUTS, &OUTPUTS)
 }
 
 // The active replies of our device, in three buffers, and of one without records.
-fn active_replies() {
+fn active_replies(rt: &impl Print) -> io::Result<()> {
     let device = our_device(2);
-    print_active(b"active reply", device, 9);
-    print_active(b"active reply", device, 7);
-    print_active(b"active reply", device, 6);
-    print_active(b"empty active reply", our_device(0), 5);
+    print_active(rt, b"active reply", device, 9)?;
+    print_active(rt, b"active reply", device, 7)?;
+    print_active(rt, b"active reply", device, 6)?;
+    print_active(rt, b"empty active reply", our_device(0), 5)
 }
 
 // A line for an endpoint number: whether it is supported, all fields of its record, and its part of either pool.
 pub(crate) fn print_endpoint<'a>(
+    rt: &impl Print,
     name: &[u8],
     device: DeviceDescriptorConfig,
     number: u8,
     inputs: &'a [u16],
     outputs: &'a [u16],
-) {
-    print::text(name);
-    print::text(b" endpoint");
-    print::byte(number);
-    print::decimal(device.supports_endpoint(number) as usize);
-    print_found(device.endpoint(number));
-    print::text(b" inputs");
-    print::words(device.endpoint_clusters(Side::Input, number, inputs, outputs));
-    print::text(b" outputs");
-    print::words(device.endpoint_clusters(Side::Output, number, inputs, outputs));
-    print::end_line();
+) -> io::Result<()> {
+    print::text(rt, name)?;
+    print::text(rt, b" endpoint")?;
+    print::byte(rt, number)?;
+    print::decimal(rt, device.supports_endpoint(number) as usize)?;
+    print_found(rt, device.endpoint(number))?;
+    print::text(rt, b" inputs")?;
+    print::words(
+        rt,
+        device.endpoint_clusters(Side::Input, number, inputs, outputs),
+    )?;
+    print::text(rt, b" outputs")?;
+    print::words(
+        rt,
+        device.endpoint_clusters(Side::Output, number, inputs, outputs),
+    )?;
+    print::end_line(rt)
 }
 
 // All fields of a record, if one was found.
-fn print_found(found: OptionEndpoint) {
+fn print_found(rt: &impl Print, found: OptionEndpoint) -> io::Result<()> {
     match found {
-        OptionEndpoint::Some(record) => print_record(record),
-        OptionEndpoint::None => print::text(b" none"),
+        OptionEndpoint::Some(record) => print_record(rt, record),
+        OptionEndpoint::None => print::text(rt, b" none"),
     }
 }
 
 // All fields of a record.
-fn print_record(record: EndpointDescriptor) {
-    print::byte(record.endpoint);
-    print::byte(record.device_version);
-    print::word(record.profile_id);
-    print::word(record.device_id);
-    print::decimal(record.input_start as usize);
-    print::decimal(record.input_count as usize);
-    print::decimal(record.output_start as usize);
-    print::decimal(record.output_count as usize);
+fn print_record(rt: &impl Print, record: EndpointDescriptor) -> io::Result<()> {
+    print::byte(rt, record.endpoint)?;
+    print::byte(rt, record.device_version)?;
+    print::word(rt, record.profile_id)?;
+    print::word(rt, record.device_id)?;
+    print::decimal(rt, record.input_start as usize)?;
+    print::decimal(rt, record.input_count as usize)?;
+    print::decimal(rt, record.output_start as usize)?;
+    print::decimal(rt, record.output_count as usize)
 }
 
 // A line for the active reply in a buffer of so many bytes.
-pub(crate) fn print_active(name: &[u8], device: DeviceDescriptorConfig, room: usize)
+pub(crate) fn print_active(
+    rt: &impl Print,
+    name: &[u8],
+    device: DeviceDescriptorConfig,
+    room: usize,
+) -> io::Result<()>
     requires { room ≤ 9 }
 {
-    print::room(name, room);
+    print::room(rt, name, room)?;
     let mut out = [0xEEu8; 9];
     let buffer = &mut out[0..room];
     let written = active_ep_rsp(device, 7, ShortAddress(0x1234), buffer);
-    print::written(written, buffer);
+    print::written(rt, written, buffer)
 }
 
 // A line for the simple reply of an endpoint number in a buffer of so many bytes.
 pub(crate) fn print_simple<'a>(
+    rt: &impl Print,
     name: &[u8],
     device: DeviceDescriptorConfig,
     number: u8,
     inputs: &'a [u16],
     outputs: &'a [u16],
     room: usize,
-)
+) -> io::Result<()>
     requires { room ≤ 71 }
 {
-    print::room(name, room);
+    print::room(rt, name, room)?;
     let mut out = [0xEEu8; 71];
     let buffer = &mut out[0..room];
     let written = simple_desc_rsp(
@@ -224,5 +238,5 @@ pub(crate) fn print_simple<'a>(
         outputs,
         buffer,
     );
-    print::written(written, buffer);
+    print::written(rt, written, buffer)
 }

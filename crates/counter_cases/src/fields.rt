@@ -1,6 +1,7 @@
 // K10's bind request, field by field.
 use crate::print;
 use byte::{read_u8, read_u16, read_u64, write_u8, write_u16, write_u64};
+use std::io;
 use zigbee_types::{GroupAddress, IeeeAddress};
 
 // The fields of a bind request to a group (2.4.3.2.2).
@@ -43,26 +44,26 @@ fn put(fields: Fields, out: &mut [u8; 16]) {
 }
 
 // The fields of K10's request, and the bytes that putting them back leaves in a buffer one byte longer.
-pub(crate) fn k10() {
+pub(crate) fn k10(rt: &impl Print) -> io::Result<()> {
     let request: [u8; 15] = [
         0x0A, 0x08, 0x07, 0x06, 0x05, 0x04, 0x03, 0x02, 0x01, 0x01, 0x02, 0x04, 0x01, 0x03, 0x00,
     ];
     let fields = fields_of(&request);
-    print::text(b"K10 fields");
-    print::byte(fields.seq);
-    print::hex(fields.src_address.0, 16);
-    print::byte(fields.src_endpoint);
-    print::word(fields.cluster_id);
-    print::byte(fields.dst_addr_mode);
-    print::word(fields.dst_group.0);
+    print::text(rt, b"K10 fields")?;
+    print::byte(rt, fields.seq)?;
+    print::hex(rt, fields.src_address.0, 16)?;
+    print::byte(rt, fields.src_endpoint)?;
+    print::word(rt, fields.cluster_id)?;
+    print::byte(rt, fields.dst_addr_mode)?;
+    print::word(rt, fields.dst_group.0)?;
     let mut out = [0xEEu8; 16];
     put(fields, &mut out);
-    print::text(b"\nK10 bytes");
-    print_buffer(&out);
-    print::end_line();
+    print::text(rt, b"\nK10 bytes")?;
+    print_buffer(rt, &out)?;
+    print::end_line(rt)
 }
 
 // Lends the array as a slice, for which its length must be known.
-fn print_buffer(buffer: &[u8; 16]) {
-    print::bytes(buffer);
+fn print_buffer(rt: &impl Print, buffer: &[u8; 16]) -> io::Result<()> {
+    print::bytes(rt, buffer)
 }

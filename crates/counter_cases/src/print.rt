@@ -1,84 +1,90 @@
 // Printing, to the standard output.
-use libc::STDOUT_FILENO;
+use std::io;
 use zigbee_types::{Refusal, Written};
 
 // Characters as they are.
-pub(crate) fn text(characters: &[u8]) {
-    io::write_all(STDOUT_FILENO, characters);
+pub(crate) fn text(rt: &impl Print, characters: &[u8]) -> io::Result<()> {
+    rt.write_all(characters)
 }
 
 // The end of a line.
-pub(crate) fn end_line() {
-    text(b"\n");
+pub(crate) fn end_line(rt: &impl Print) -> io::Result<()> {
+    text(rt, b"\n")
 }
 
 // A name, and how much room a buffer has.
-pub(crate) fn room(name: &[u8], room: usize) {
-    text(name);
-    text(b" room");
-    decimal(room);
+pub(crate) fn room(rt: &impl Print, name: &[u8], room: usize) -> io::Result<()> {
+    text(rt, name)?;
+    text(rt, b" room")?;
+    decimal(rt, room)
 }
 
 // A name, a request by its cluster and payload, and how much room a buffer has.
-pub(crate) fn asked(name: &[u8], cluster: u16, payload: &[u8], space: usize) {
-    text(name);
-    word(cluster);
-    bytes(payload);
-    room(b"", space);
+pub(crate) fn asked(
+    rt: &impl Print,
+    name: &[u8],
+    cluster: u16,
+    payload: &[u8],
+    space: usize,
+) -> io::Result<()> {
+    text(rt, name)?;
+    word(rt, cluster)?;
+    bytes(rt, payload)?;
+    room(rt, b"", space)
 }
 
 // A number of so many hexadecimal digits, with a space before it.
-pub(crate) fn hex(n: u64, digits: usize) {
-    text(b" ");
-    io::print_hex(STDOUT_FILENO, n, digits);
+pub(crate) fn hex(rt: &impl Print, n: u64, digits: usize) -> io::Result<()> {
+    print!(rt; " {n:0digits$x}")
 }
 
 // A number in decimal, with a space before it.
-pub(crate) fn decimal(n: usize) {
-    text(b" ");
-    io::print_decimal(STDOUT_FILENO, n as u64);
+pub(crate) fn decimal(rt: &impl Print, n: usize) -> io::Result<()> {
+    print!(rt; " {n}")
 }
 
 // A byte in hexadecimal, with a space before it.
-pub(crate) fn byte(byte: u8) {
-    hex(byte as u64, 2);
+pub(crate) fn byte(rt: &impl Print, byte: u8) -> io::Result<()> {
+    hex(rt, byte as u64, 2)
 }
 
 // A number of two bytes in hexadecimal, with a space before it.
-pub(crate) fn word(n: u16) {
-    hex(n as u64, 4);
+pub(crate) fn word(rt: &impl Print, n: u16) -> io::Result<()> {
+    hex(rt, n as u64, 4)
 }
 
 // Bytes in hexadecimal, with a space before each.
-pub(crate) fn bytes(bytes: &[u8]) {
+pub(crate) fn bytes(rt: &impl Print, bytes: &[u8]) -> io::Result<()> {
     let mut i: usize = 0;
     while i < bytes.len() {
-        byte(bytes[i]);
+        byte(rt, bytes[i])?;
         i += 1;
     }
+    Ok(())
 }
 
 // Numbers of two bytes in hexadecimal, with a space before each.
-pub(crate) fn words(words: &[u16]) {
+pub(crate) fn words(rt: &impl Print, words: &[u16]) -> io::Result<()> {
     let mut i: usize = 0;
     while i < words.len() {
-        word(words[i]);
+        word(rt, words[i])?;
         i += 1;
     }
+    Ok(())
 }
 
 // A refusal: `R` and its number, with a space before them.
-pub(crate) fn refusal(why: Refusal) {
-    text(b" R");
-    io::print_decimal(STDOUT_FILENO, why.number() as u64);
+pub(crate) fn refusal(rt: &impl Print, why: Refusal) -> io::Result<()> {
+    let number = why.number();
+    print!(rt; " R{number}")
 }
 
 // How many bytes a writer wrote, or why it wrote none, and all of the buffer then. Ends the line.
-pub(crate) fn written(written: Written, buffer: &[u8]) {
+pub(crate) fn written(rt: &impl Print, written: Written, buffer: &[u8]) -> io::Result<()> {
     match written {
-        Written::Length(count) => decimal(count),
-        Written::Refused(why) => refusal(why),
+        Written::Length(count) => decimal(rt, count)?,
+        Written::Refused(why) => refusal(rt, why)?,
     }
-    bytes(buffer);
-    end_line();
+    bytes(rt, buffer)?;
+    end_line(rt)
 }

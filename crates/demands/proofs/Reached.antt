@@ -90,7 +90,7 @@ reached_next {t} c built r =
 reached_after : {t : BindingTable} (cs : List Call) → AllBuilt cs → Reached t → Reached (after t cs)
 unfolding left
 reached_after [] built r = r
-reached_after (c ∷ cs) (first, rest) r = reached_after cs rest (reached_next c first r)
+reached_after {t = t} (c ∷ cs) (first, rest) r = reached_after {t = next t c} cs rest (reached_next c first r)
 
 pub reached_from_empty : ReachedFromEmpty
 unfolding empty_table held all

@@ -32,7 +32,7 @@ module _ {d : DeviceDescriptorConfig} {run : List EndpointDescriptor} (h : Holds
       go false many = rw (h.counted, many)
 
   same_matching : (p : Pools) (q : MatchDescReq) (payload : List ℕ) → matched_records p run q payload ≡ matching_endpoints p d q payload
-  unfolding matched_records matching_endpoints good_records good_sizes
+  unfolding matched_records matching_endpoints good_device good_records good_sizes
   same_matching p q payload = go (leb (length run) 32) refl
     where
       go : (t : Bool) → leb (length run) 32 ≡ t → matched_records p run q payload ≡ matching_endpoints p d q payload

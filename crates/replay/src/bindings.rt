@@ -3,10 +3,11 @@ use crate::out::Text;
 use crate::words::{u8_at, u16_at};
 use crate::{links, out, words};
 use aps_binding::binding::Binding;
+use std::io;
 use zigbee_types::{GroupAddress, IeeeAddress};
 
 // Puts the answer to a question about entries, or hands the line on.
-pub(crate) fn answer(line: &[u8], text: Text) -> Text {
+pub(crate) fn answer(line: &[u8], text: Text) -> io::Result<Text> {
     let questions = b"Binding::group 1 2 2;\
         Binding::device 1 2 8 1;\
         Binding::matches B 1 2;\
@@ -63,7 +64,7 @@ pub(crate) fn entry_of(word: &[u8]) -> Binding {
 }
 
 // Puts an entry. One that is not as `group` or `device` build them, in its mode or in a field that is zero there, is `?`.
-pub(crate) fn put_entry(entry: Binding, text: Text) -> Text {
+pub(crate) fn put_entry(entry: Binding, text: Text) -> io::Result<Text> {
     let mode = entry.dst_addr_mode;
     match mode {
         Binding::GROUP => put_group(entry, text),
@@ -73,27 +74,27 @@ pub(crate) fn put_entry(entry: Binding, text: Text) -> Text {
 }
 
 // Puts an entry to a group, or `?` where it has a device too.
-fn put_group(entry: Binding, text: Text) -> Text {
+fn put_group(entry: Binding, text: Text) -> io::Result<Text> {
     if entry.dst_ieee.0 != 0 || entry.dst_endpoint != 0 {
         return out::byte(text, b'?');
     }
-    let text = put_source(entry, text);
+    let text = put_source(entry, text)?;
     out::hex_u16(text, entry.dst_group.0)
 }
 
 // Puts an entry to a device, or `?` where it has a group too.
-fn put_device(entry: Binding, text: Text) -> Text {
+fn put_device(entry: Binding, text: Text) -> io::Result<Text> {
     if entry.dst_group.0 != 0 {
         return out::byte(text, b'?');
     }
-    let text = put_source(entry, text);
-    let text = out::hex_u64(text, entry.dst_ieee.0);
+    let text = put_source(entry, text)?;
+    let text = out::hex_u64(text, entry.dst_ieee.0)?;
     out::hex_u8(text, entry.dst_endpoint)
 }
 
 // Puts the fields that stand before an entry's destination.
-fn put_source(entry: Binding, text: Text) -> Text {
-    let text = out::hex_u8(text, entry.dst_addr_mode);
-    let text = out::hex_u8(text, entry.src_endpoint);
+fn put_source(entry: Binding, text: Text) -> io::Result<Text> {
+    let text = out::hex_u8(text, entry.dst_addr_mode)?;
+    let text = out::hex_u8(text, entry.src_endpoint)?;
     out::hex_u16(text, entry.cluster_id)
 }

@@ -2,9 +2,10 @@
 use crate::out::Text;
 use crate::{out, simple, values, words};
 use power_names::PowerSource;
+use std::io;
 
 // Puts the answer to a question about bits, or hands the line on.
-pub(crate) fn answer(line: &[u8], text: Text) -> Text {
+pub(crate) fn answer(line: &[u8], text: Text) -> io::Result<Text> {
     let number = words::u16_in(line, 1);
     let questions = b"CurrentPowerMode::bits m;\
         PowerSource::bits s;\

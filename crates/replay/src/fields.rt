@@ -4,6 +4,7 @@ ghost use Rattle.std.specs.Prelude.{◌<◌};
 
 use crate::out::Text;
 use crate::{node, out, words};
+use std::io;
 
 // A field of one, two or eight bytes.
 #[derive(Clone, Copy)]
@@ -14,7 +15,7 @@ enum Width {
 }
 
 // Puts the answer to a question about fields, or hands the line on.
-pub(crate) fn answer(line: &[u8], text: Text) -> Text {
+pub(crate) fn answer(line: &[u8], text: Text) -> io::Result<Text> {
     let questions = b"read_u8 b d;\
         read_u16 b d;\
         read_u64 b d;\
@@ -33,7 +34,7 @@ pub(crate) fn answer(line: &[u8], text: Text) -> Text {
 }
 
 // Puts the answer to a read: behind its name stand BYTES PLACE.
-fn read(line: &[u8], width: Width, text: Text) -> Text {
+fn read(line: &[u8], width: Width, text: Text) -> io::Result<Text> {
     let mut space = [0u8; words::BYTES];
     let count = words::bytes_in(line, 1, &mut space);
     let place = words::decimal_in(line, 2);
@@ -46,7 +47,7 @@ fn read(line: &[u8], width: Width, text: Text) -> Text {
 }
 
 // Puts the answer to a write: behind its name stand PLACE NUMBER BUFFER. A number of one or two bytes is its own remainder.
-fn write(line: &[u8], width: Width, text: Text) -> Text {
+fn write(line: &[u8], width: Width, text: Text) -> io::Result<Text> {
     let place = words::decimal_in(line, 1);
     let number = words::hex_in(line, 2);
     let mut space = [0u8; words::BYTES];
@@ -60,49 +61,49 @@ fn write(line: &[u8], width: Width, text: Text) -> Text {
 }
 
 // Puts the field of u8 at a place and the place behind it, or `R`.
-fn read_u8(bytes: &[u8], place: usize, text: Text) -> Text
+fn read_u8(bytes: &[u8], place: usize, text: Text) -> io::Result<Text>
     requires { place < 1000000000 }
 {
     if bytes.len() < place + 1 {
         return out::byte(text, b'R');
     }
     let field = byte::read_u8(bytes, place);
-    let text = out::hex_u8(text, field.value);
+    let text = out::hex_u8(text, field.value)?;
     behind(text, field.next)
 }
 
 // Puts the field of u16 at a place and the place behind it, or `R`.
-fn read_u16(bytes: &[u8], place: usize, text: Text) -> Text
+fn read_u16(bytes: &[u8], place: usize, text: Text) -> io::Result<Text>
     requires { place < 1000000000 }
 {
     if bytes.len() < place + 2 {
         return out::byte(text, b'R');
     }
     let field = byte::read_u16(bytes, place);
-    let text = out::hex_u16(text, field.value);
+    let text = out::hex_u16(text, field.value)?;
     behind(text, field.next)
 }
 
 // Puts the field of u64 at a place and the place behind it, or `R`.
-fn read_u64(bytes: &[u8], place: usize, text: Text) -> Text
+fn read_u64(bytes: &[u8], place: usize, text: Text) -> io::Result<Text>
     requires { place < 1000000000 }
 {
     if bytes.len() < place + 8 {
         return out::byte(text, b'R');
     }
     let field = byte::read_u64(bytes, place);
-    let text = out::hex_u64(text, field.value);
+    let text = out::hex_u64(text, field.value)?;
     behind(text, field.next)
 }
 
 // Puts the place behind a field that was read, after a space.
-fn behind(text: Text, place: usize) -> Text {
-    let text = out::byte(text, b' ');
+fn behind(text: Text, place: usize) -> io::Result<Text> {
+    let text = out::byte(text, b' ')?;
     out::decimal(text, place)
 }
 
 // Puts the place behind a field of u8 that is written at a place, and the buffer then, or `R`.
-fn write_u8(buffer: &mut [u8], place: usize, number: u8, text: Text) -> Text
+fn write_u8(buffer: &mut [u8], place: usize, number: u8, text: Text) -> io::Result<Text>
     requires { place < 1000000000 }
 {
     if buffer.len() < place + 1 {
@@ -113,7 +114,7 @@ fn write_u8(buffer: &mut [u8], place: usize, number: u8, text: Text) -> Text
 }
 
 // Puts the place behind a field of u16 that is written at a place, and the buffer then, or `R`.
-fn write_u16(buffer: &mut [u8], place: usize, number: u16, text: Text) -> Text
+fn write_u16(buffer: &mut [u8], place: usize, number: u16, text: Text) -> io::Result<Text>
     requires { place < 1000000000 }
 {
     if buffer.len() < place + 2 {
@@ -124,7 +125,7 @@ fn write_u16(buffer: &mut [u8], place: usize, number: u16, text: Text) -> Text
 }
 
 // Puts the place behind a field of u64 that is written at a place, and the buffer then, or `R`.
-fn write_u64(buffer: &mut [u8], place: usize, number: u64, text: Text) -> Text
+fn write_u64(buffer: &mut [u8], place: usize, number: u64, text: Text) -> io::Result<Text>
     requires { place < 1000000000 }
 {
     if buffer.len() < place + 8 {

@@ -5,9 +5,10 @@ use node_flags::{
     DescriptorCapabilities, DescriptorCapabilityFlag, FrequencyBandFlag, FrequencyBands,
     MacCapabilities, MacCapabilityFlag, ServerMask, ServerMaskFlag,
 };
+use std::io;
 
 // Puts the answer to a question about flags, or hands the line on.
-pub(crate) fn answer(line: &[u8], text: Text) -> Text {
+pub(crate) fn answer(line: &[u8], text: Text) -> io::Result<Text> {
     let questions = b"FrequencyBands::is_set 1;\
         MacCapabilities::is_set 1;\
         ServerMask::is_set 2;\
@@ -24,7 +25,7 @@ pub(crate) fn answer(line: &[u8], text: Text) -> Text {
 }
 
 // Puts which flags are set in the frequency bands, in their order.
-fn put_bands(field: FrequencyBands, text: Text) -> Text {
+fn put_bands(field: FrequencyBands, text: Text) -> io::Result<Text> {
     let set = [
         field.is_set(FrequencyBandFlag::Low),
         field.is_set(FrequencyBandFlag::Mid),
@@ -35,7 +36,7 @@ fn put_bands(field: FrequencyBands, text: Text) -> Text {
 }
 
 // Puts which flags are set in the MAC capabilities, in their order.
-fn put_mac(field: MacCapabilities, text: Text) -> Text {
+fn put_mac(field: MacCapabilities, text: Text) -> io::Result<Text> {
     let set = [
         field.is_set(MacCapabilityFlag::AlternatePanCoordinator),
         field.is_set(MacCapabilityFlag::DeviceType),
@@ -48,7 +49,7 @@ fn put_mac(field: MacCapabilities, text: Text) -> Text {
 }
 
 // Puts which flags are set in a server mask, in their order.
-fn put_mask(field: ServerMask, text: Text) -> Text {
+fn put_mask(field: ServerMask, text: Text) -> io::Result<Text> {
     let set = [
         field.is_set(ServerMaskFlag::PrimaryTrustCenter),
         field.is_set(ServerMaskFlag::BackupTrustCenter),
@@ -62,7 +63,7 @@ fn put_mask(field: ServerMask, text: Text) -> Text {
 }
 
 // Puts which flags are set in the descriptor capabilities, in their order.
-fn put_capabilities(field: DescriptorCapabilities, text: Text) -> Text {
+fn put_capabilities(field: DescriptorCapabilities, text: Text) -> io::Result<Text> {
     let set = [
         field.is_set(DescriptorCapabilityFlag::ExtendedActiveEndpontListAvailable),
         field.is_set(DescriptorCapabilityFlag::ExtendedSimpleDescriptorListAvailable),
@@ -71,6 +72,6 @@ fn put_capabilities(field: DescriptorCapabilities, text: Text) -> Text {
 }
 
 // Puts the revision of the stack in a server mask.
-fn put_revision(field: ServerMask, text: Text) -> Text {
+fn put_revision(field: ServerMask, text: Text) -> io::Result<Text> {
     out::hex_u8(text, field.get_stack_compliance_revision())
 }

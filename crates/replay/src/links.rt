@@ -8,18 +8,19 @@ use crate::{bindings, out, words};
 use aps_binding_table::binding::{
     BindingTable, LinkStatus, Linked, create_binding_link, remove_binding_link,
 };
+use std::io;
 use zdo_replies::descriptor::BindStatus;
 
 // Puts the answer to the question about a sequence. It stays as it is where the line is none.
-pub(crate) fn answer(line: &[u8], text: Text) -> Text {
+pub(crate) fn answer(line: &[u8], text: Text) -> io::Result<Text> {
     let limit = words::decimal_in(line, 1);
     if !has_limit(line) || limit > 32 {
-        return text;
+        return Ok(text);
     }
     let table = first_table(line, limit);
     let passed = 1 + table.count;
     if !has_steps(line, passed) {
-        return text;
+        return Ok(text);
     }
     run(line, passed, table, text)
 }
@@ -86,10 +87,10 @@ fn behind(word: &[u8]) -> &[u8] {
 }
 
 // Takes the steps behind the first so many words, and puts the status of each, or `-` where there is none, and the table then.
-fn run(line: &[u8], passed: usize, table: BindingTable, text: Text) -> Text {
+fn run(line: &[u8], passed: usize, table: BindingTable, text: Text) -> io::Result<Text> {
     let last = words::arguments(line);
     if last <= passed {
-        let text = out::byte(text, b'-');
+        let text = out::byte(text, b'-')?;
         return put_table(table, text);
     }
     let mut table = table;
@@ -100,7 +101,7 @@ fn run(line: &[u8], passed: usize, table: BindingTable, text: Text) -> Text {
         let linked = step(table, words::word_of(line, i));
         let status = linked.status;
         table = linked.table;
-        text = put_status(status, text);
+        text = put_status(status, text)?;
     }
     put_table(table, text)
 }
@@ -115,7 +116,7 @@ fn step(table: BindingTable, word: &[u8]) -> Linked {
 }
 
 // Puts a status. The oracle never answers `R`: a refusal, which no table of this question earns, would show.
-fn put_status(status: LinkStatus, text: Text) -> Text {
+fn put_status(status: LinkStatus, text: Text) -> io::Result<Text> {
     match status {
         LinkStatus::Success => out::hex_u8(text, BindStatus::Success.code()),
         LinkStatus::InvalidBinding => out::hex_u8(text, BindStatus::NoEntry.code()),
@@ -125,17 +126,17 @@ fn put_status(status: LinkStatus, text: Text) -> Text {
 }
 
 // Puts a table, after a space: how many entries it holds, and each of them.
-fn put_table(table: BindingTable, text: Text) -> Text {
-    let mut text = out::byte(text, b' ');
-    text = out::decimal(text, table.count);
+fn put_table(table: BindingTable, text: Text) -> io::Result<Text> {
+    let mut text = out::byte(text, b' ')?;
+    text = out::decimal(text, table.count)?;
     let mut i: usize = 0;
     while i < 32 {
         if table.count <= i {
-            return text;
+            return Ok(text);
         }
-        text = out::byte(text, b' ');
-        text = bindings::put_entry(table.entries[i], text);
+        text = out::byte(text, b' ')?;
+        text = bindings::put_entry(table.entries[i], text)?;
         i += 1;
     }
-    text
+    Ok(text)
 }

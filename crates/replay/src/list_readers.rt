@@ -4,13 +4,14 @@ use crate::out::Text;
 use crate::readers::{put_header, put_none, put_status};
 use crate::requests::put_places;
 use simple_descriptor::SimpleDescriptorFields;
+use std::io;
 use zdo_list_readers::readers::{
     ListReply, ListReplyRead, MatchReply, MatchReplyRead, OptionSimpleDescriptor, SimpleReply,
     SimpleReplyRead,
 };
 
 // Puts the reply that a reader gives, by the reader's place among the questions.
-pub(crate) fn read(bytes: &[u8], reader: usize, text: Text) -> Text {
+pub(crate) fn read(bytes: &[u8], reader: usize, text: Text) -> io::Result<Text> {
     match reader {
         5 => list(bytes, text),
         6 => matched(bytes, text),
@@ -19,7 +20,7 @@ pub(crate) fn read(bytes: &[u8], reader: usize, text: Text) -> Text {
 }
 
 // Puts an active reply, or `R`.
-fn list(bytes: &[u8], text: Text) -> Text {
+fn list(bytes: &[u8], text: Text) -> io::Result<Text> {
     match ListReply::try_read(bytes) {
         ListReplyRead::Reply(reply) => put_list(reply, text),
         ListReplyRead::Refused(_) => out::byte(text, b'R'),
@@ -27,13 +28,13 @@ fn list(bytes: &[u8], text: Text) -> Text {
 }
 
 // Puts what a reply begins with, and where its list stands.
-fn put_list(reply: ListReply, text: Text) -> Text {
+fn put_list(reply: ListReply, text: Text) -> io::Result<Text> {
     let list = reply.list;
-    put_places(list, put_header(reply.header, text))
+    put_places(list, put_header(reply.header, text)?)
 }
 
 // Puts a match reply, or `R`.
-fn matched(bytes: &[u8], text: Text) -> Text {
+fn matched(bytes: &[u8], text: Text) -> io::Result<Text> {
     match MatchReply::try_read(bytes) {
         MatchReplyRead::Reply(reply) => put_match(reply, text),
         MatchReplyRead::Refused(_) => out::byte(text, b'R'),
@@ -41,32 +42,32 @@ fn matched(bytes: &[u8], text: Text) -> Text {
 }
 
 // Puts a match reply as an active reply, or one that failed with `-` for its address and its list.
-fn put_match(reply: MatchReply, text: Text) -> Text {
+fn put_match(reply: MatchReply, text: Text) -> io::Result<Text> {
     match reply {
         MatchReply::Matched(list) => put_list(list, text),
-        MatchReply::Failed(error) => put_none(put_status(error.seq, error.status, text)),
+        MatchReply::Failed(error) => put_none(put_status(error.seq, error.status, text)?),
     }
 }
 
 // Puts a simple reply, or `R`.
-fn simple(bytes: &[u8], text: Text) -> Text {
+fn simple(bytes: &[u8], text: Text) -> io::Result<Text> {
     match SimpleReply::try_read(bytes) {
         SimpleReplyRead::Reply(reply) => {
             let descriptor = reply.descriptor;
-            put_simple(descriptor, put_header(reply.header, text))
+            put_simple(descriptor, put_header(reply.header, text)?)
         }
         SimpleReplyRead::Refused(_) => out::byte(text, b'R'),
     }
 }
 
 // Puts a simple descriptor after a space, an endpoint and where its two lists stand, or `-` for none.
-fn put_simple(descriptor: OptionSimpleDescriptor, text: Text) -> Text {
+fn put_simple(descriptor: OptionSimpleDescriptor, text: Text) -> io::Result<Text> {
     match descriptor {
         OptionSimpleDescriptor::Some(fields) => {
             let inputs = fields.input_clusters;
             let outputs = fields.output_clusters;
-            let text = put_endpoint(fields, text);
-            let text = put_places(inputs, text);
+            let text = put_endpoint(fields, text)?;
+            let text = put_places(inputs, text)?;
             put_places(outputs, text)
         }
         OptionSimpleDescriptor::None => put_none(text),
@@ -74,10 +75,10 @@ fn put_simple(descriptor: OptionSimpleDescriptor, text: Text) -> Text {
 }
 
 // Puts the fields before the lists of a simple descriptor after a space.
-fn put_endpoint(fields: SimpleDescriptorFields, text: Text) -> Text {
-    let text = out::byte(text, b' ');
-    let text = out::hex_u8(text, fields.endpoint);
-    let text = out::hex_u16(text, fields.profile_id);
-    let text = out::hex_u16(text, fields.device_id);
+fn put_endpoint(fields: SimpleDescriptorFields, text: Text) -> io::Result<Text> {
+    let text = out::byte(text, b' ')?;
+    let text = out::hex_u8(text, fields.endpoint)?;
+    let text = out::hex_u16(text, fields.profile_id)?;
+    let text = out::hex_u16(text, fields.device_id)?;
     out::hex_u8(text, fields.device_version)
 }

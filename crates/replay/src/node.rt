@@ -4,9 +4,10 @@ use crate::words::{u8_at, u16_at};
 use crate::{flags, out, values, words};
 use node_descriptor::descriptor::NodeDescriptorConfig;
 use node_descriptor::{LogicalType, NodeDescriptor, NodeDescriptorRead};
+use std::io;
 
 // Puts the answer to a question about the node descriptor, or hands the line on.
-pub(crate) fn answer(line: &[u8], text: Text) -> Text {
+pub(crate) fn answer(line: &[u8], text: Text) -> io::Result<Text> {
     let questions = b"NodeDescriptorConfig::default;\
         NodeDescriptorConfig::write N b;\
         NodeDescriptor::try_read b;\
@@ -23,7 +24,7 @@ pub(crate) fn answer(line: &[u8], text: Text) -> Text {
 }
 
 // Puts the answer to a write: behind its name stand NODE BUFFER.
-fn write(line: &[u8], text: Text) -> Text {
+fn write(line: &[u8], text: Text) -> io::Result<Text> {
     let node = node_of(words::word_of(line, 1));
     let mut space = [0u8; words::BYTES];
     let count = words::bytes_in(line, 2, &mut space);
@@ -57,7 +58,7 @@ fn read(line: &[u8]) -> NodeDescriptorRead {
 }
 
 // Puts how many bytes a descriptor was read from, always thirteen, or `R`.
-fn try_read(found: NodeDescriptorRead, text: Text) -> Text {
+fn try_read(found: NodeDescriptorRead, text: Text) -> io::Result<Text> {
     match found {
         NodeDescriptorRead::Descriptor(_) => out::decimal(text, 13),
         NodeDescriptorRead::Refused(_) => out::byte(text, b'R'),
@@ -65,18 +66,18 @@ fn try_read(found: NodeDescriptorRead, text: Text) -> Text {
 }
 
 // Puts the logical type of a descriptor. Bytes that are none are no question.
-fn logical_type(found: NodeDescriptorRead, text: Text) -> Text {
+fn logical_type(found: NodeDescriptorRead, text: Text) -> io::Result<Text> {
     match found {
         NodeDescriptorRead::Descriptor(descriptor) => { put_type(descriptor.logical_type(), text) }
-        NodeDescriptorRead::Refused(_) => text,
+        NodeDescriptorRead::Refused(_) => Ok(text),
     }
 }
 
 // Puts what the other accessors say of a descriptor. Bytes that are none are no question.
-fn accessors(found: NodeDescriptorRead, text: Text) -> Text {
+fn accessors(found: NodeDescriptorRead, text: Text) -> io::Result<Text> {
     match found {
         NodeDescriptorRead::Descriptor(descriptor) => put_fields(fields(descriptor), text),
-        NodeDescriptorRead::Refused(_) => text,
+        NodeDescriptorRead::Refused(_) => Ok(text),
     }
 }
 
@@ -102,42 +103,42 @@ fn fields(descriptor: NodeDescriptor) -> NodeDescriptorConfig {
 }
 
 // Puts what all accessors of a descriptor say, as a node.
-pub(crate) fn put_descriptor(descriptor: NodeDescriptor, text: Text) -> Text {
+pub(crate) fn put_descriptor(descriptor: NodeDescriptor, text: Text) -> io::Result<Text> {
     put_node(fields(descriptor), text)
 }
 
 // Puts a node.
-fn put_node(node: NodeDescriptorConfig, text: Text) -> Text {
+fn put_node(node: NodeDescriptorConfig, text: Text) -> io::Result<Text> {
     let logical_type = node.logical_type;
-    let text = put_type(logical_type, text);
+    let text = put_type(logical_type, text)?;
     put_fields(node, text)
 }
 
 // Puts a logical type.
-fn put_type(logical_type: LogicalType, text: Text) -> Text {
+fn put_type(logical_type: LogicalType, text: Text) -> io::Result<Text> {
     out::hex_u16(text, values::of_logical_type(logical_type))
 }
 
 // Puts the fields of a node that stand behind its type.
-fn put_fields(node: NodeDescriptorConfig, text: Text) -> Text {
-    let text = put_abilities(node, text);
+fn put_fields(node: NodeDescriptorConfig, text: Text) -> io::Result<Text> {
+    let text = put_abilities(node, text)?;
     put_sizes(node, text)
 }
 
 // Puts the fields of a node from the complex descriptor's flag to the manufacturer.
-fn put_abilities(node: NodeDescriptorConfig, text: Text) -> Text {
-    let text = out::hex_u8(text, node.complex_descriptor_available as u8);
-    let text = out::hex_u8(text, node.user_descriptor_available as u8);
-    let text = out::hex_u8(text, node.frequency_band);
-    let text = out::hex_u8(text, node.mac_capability_flags);
+fn put_abilities(node: NodeDescriptorConfig, text: Text) -> io::Result<Text> {
+    let text = out::hex_u8(text, node.complex_descriptor_available as u8)?;
+    let text = out::hex_u8(text, node.user_descriptor_available as u8)?;
+    let text = out::hex_u8(text, node.frequency_band)?;
+    let text = out::hex_u8(text, node.mac_capability_flags)?;
     out::hex_u16(text, node.manufacturer_code)
 }
 
 // Puts the fields of a node from the buffer's size on.
-fn put_sizes(node: NodeDescriptorConfig, text: Text) -> Text {
-    let text = out::hex_u8(text, node.maximum_buffer_size);
-    let text = out::hex_u16(text, node.maximum_incoming_transfer_size);
-    let text = out::hex_u16(text, node.server_mask);
-    let text = out::hex_u16(text, node.maximum_outgoing_transfer_size);
+fn put_sizes(node: NodeDescriptorConfig, text: Text) -> io::Result<Text> {
+    let text = out::hex_u8(text, node.maximum_buffer_size)?;
+    let text = out::hex_u16(text, node.maximum_incoming_transfer_size)?;
+    let text = out::hex_u16(text, node.server_mask)?;
+    let text = out::hex_u16(text, node.maximum_outgoing_transfer_size)?;
     out::hex_u8(text, node.descriptor_capability_field)
 }

@@ -4,9 +4,10 @@ use crate::words::u16_at;
 use crate::{bits, out, values, words};
 use node_power_descriptor::descriptor::PowerDescriptorConfig;
 use node_power_descriptor::{NodePowerDescriptor, NodePowerDescriptorRead};
+use std::io;
 
 // Puts the answer to a question about the node power descriptor, or hands the line on.
-pub(crate) fn answer(line: &[u8], text: Text) -> Text {
+pub(crate) fn answer(line: &[u8], text: Text) -> io::Result<Text> {
     let questions = b"PowerDescriptorConfig::write P S b;\
         NodePowerDescriptor::try_read b;\
         NodePowerDescriptor::accessors b;\
@@ -21,7 +22,7 @@ pub(crate) fn answer(line: &[u8], text: Text) -> Text {
 }
 
 // Puts the answer to a write: behind its name stand POWER NAMEDS BUFFER.
-fn write(line: &[u8], text: Text) -> Text {
+fn write(line: &[u8], text: Text) -> io::Result<Text> {
     let power = power_of(words::word_of(line, 1), bits::bitmap(line, 2));
     let mut space = [0u8; words::BYTES];
     let count = words::bytes_in(line, 3, &mut space);
@@ -41,7 +42,7 @@ pub(crate) fn power_of(word: &[u8], available_power_sources: u8) -> PowerDescrip
 }
 
 // Puts the answer to a read: behind its name stand BYTES. A descriptor is always read from two.
-fn try_read(line: &[u8], text: Text) -> Text {
+fn try_read(line: &[u8], text: Text) -> io::Result<Text> {
     let mut space = [0u8; words::BYTES];
     let count = words::bytes_in(line, 1, &mut space);
     match NodePowerDescriptor::try_read(&space[0..count]) {
@@ -51,17 +52,17 @@ fn try_read(line: &[u8], text: Text) -> Text {
 }
 
 // Puts the power that a descriptor says: behind the question's name stand BYTES. Fewer than two are no question.
-fn accessors(line: &[u8], text: Text) -> Text {
+fn accessors(line: &[u8], text: Text) -> io::Result<Text> {
     if words::word_of(line, 1).len() < 4 {
-        return text;
+        return Ok(text);
     }
     put_descriptor(descriptor_of(line), text)
 }
 
 // Puts what the accessors of a descriptor say, as a power.
-pub(crate) fn put_descriptor(descriptor: NodePowerDescriptor, text: Text) -> Text {
-    let text = out::hex_u16(text, values::of_mode(descriptor.current_power_mode()));
-    let text = out::hex_u16(text, values::of_source(descriptor.current_power_source()));
+pub(crate) fn put_descriptor(descriptor: NodePowerDescriptor, text: Text) -> io::Result<Text> {
+    let text = out::hex_u16(text, values::of_mode(descriptor.current_power_mode()))?;
+    let text = out::hex_u16(text, values::of_source(descriptor.current_power_source()))?;
     out::hex_u16(
         text,
         values::of_level(descriptor.current_power_source_level()),
@@ -70,9 +71,9 @@ pub(crate) fn put_descriptor(descriptor: NodePowerDescriptor, text: Text) -> Tex
 
 // Puts whether a descriptor has a source available: behind the question's name stand BYTES NAMED. Fewer than two bytes are no
 // question.
-fn supports(line: &[u8], text: Text) -> Text {
+fn supports(line: &[u8], text: Text) -> io::Result<Text> {
     if words::word_of(line, 1).len() < 4 {
-        return text;
+        return Ok(text);
     }
     let descriptor = descriptor_of(line);
     out::flag(

@@ -3,6 +3,7 @@
 use crate::out::Text;
 use crate::requests::{put_places, put_u16};
 use crate::{bindings, list_readers, node, out, power, words};
+use std::io;
 use zdo_readers::descriptor::{
     NodeDescRsp, NodeDescRspRead, OptionServerMask, OptionStackRevision, parse_node_desc_rsp,
 };
@@ -13,7 +14,7 @@ use zdo_readers::readers::{
 use zigbee_types::ShortAddress;
 
 // Puts the answer to a question about a reader, or hands the line on.
-pub(crate) fn answer(line: &[u8], text: Text) -> Text {
+pub(crate) fn answer(line: &[u8], text: Text) -> io::Result<Text> {
     let questions = b"parse_node_desc_rsp b;\
         NodeReply::try_read b;\
         PowerReply::try_read b;\
@@ -32,7 +33,7 @@ pub(crate) fn answer(line: &[u8], text: Text) -> Text {
 }
 
 // Puts the reply that a reader gives, by the reader's place among the questions: behind the question's name stand BYTES.
-fn read(line: &[u8], reader: usize, text: Text) -> Text {
+fn read(line: &[u8], reader: usize, text: Text) -> io::Result<Text> {
     let mut space = [0u8; words::BYTES];
     let count = words::bytes_in(line, 1, &mut space);
     let bytes = &space[0..count];
@@ -47,12 +48,12 @@ fn read(line: &[u8], reader: usize, text: Text) -> Text {
 }
 
 // Puts what the Rust's reader gives of a node reply, or `R`.
-fn node_desc(bytes: &[u8], text: Text) -> Text {
+fn node_desc(bytes: &[u8], text: Text) -> io::Result<Text> {
     match parse_node_desc_rsp(bytes) {
         NodeDescRspRead::Reply(reply) => {
             let server_mask = reply.server_mask;
-            let text = put_status(reply.seq, reply.status, text);
-            let text = put_u16(reply.nwk_addr_of_interest.0, text);
+            let text = put_status(reply.seq, reply.status, text)?;
+            let text = put_u16(reply.nwk_addr_of_interest.0, text)?;
             put_mask(server_mask, text)
         }
         NodeDescRspRead::Refused(_) => out::byte(text, b'R'),
@@ -60,7 +61,7 @@ fn node_desc(bytes: &[u8], text: Text) -> Text {
 }
 
 // Puts a server mask after a space, or `-` for none.
-fn put_mask(mask: OptionServerMask, text: Text) -> Text {
+fn put_mask(mask: OptionServerMask, text: Text) -> io::Result<Text> {
     match mask {
         OptionServerMask::Some(mask) => put_u16(mask, text),
         OptionServerMask::None => put_none(text),
@@ -87,7 +88,7 @@ fn mask_of(word: &[u8]) -> OptionServerMask {
 }
 
 // Puts a stack revision, or `-` for none.
-fn put_revision(revision: OptionStackRevision, text: Text) -> Text {
+fn put_revision(revision: OptionStackRevision, text: Text) -> io::Result<Text> {
     match revision {
         OptionStackRevision::Some(revision) => out::hex_u8(text, revision),
         OptionStackRevision::None => out::byte(text, b'-'),
@@ -95,43 +96,43 @@ fn put_revision(revision: OptionStackRevision, text: Text) -> Text {
 }
 
 // Puts a node reply, or `R`.
-fn node(bytes: &[u8], text: Text) -> Text {
+fn node(bytes: &[u8], text: Text) -> io::Result<Text> {
     match NodeReply::try_read(bytes) {
         NodeReplyRead::Reply(reply) => {
             let descriptor = reply.descriptor;
-            put_node(descriptor, put_header(reply.header, text))
+            put_node(descriptor, put_header(reply.header, text)?)
         }
         NodeReplyRead::Refused(_) => out::byte(text, b'R'),
     }
 }
 
 // Puts a node descriptor after a space, or `-` for none.
-fn put_node(descriptor: OptionNodeDescriptor, text: Text) -> Text {
+fn put_node(descriptor: OptionNodeDescriptor, text: Text) -> io::Result<Text> {
     match descriptor {
         OptionNodeDescriptor::Some(descriptor) => {
-            node::put_descriptor(descriptor, out::byte(text, b' '))
+            node::put_descriptor(descriptor, out::byte(text, b' ')?)
         }
         OptionNodeDescriptor::None => put_none(text),
     }
 }
 
 // Puts a power reply, or `R`.
-fn power(bytes: &[u8], text: Text) -> Text {
+fn power(bytes: &[u8], text: Text) -> io::Result<Text> {
     match PowerReply::try_read(bytes) {
         PowerReplyRead::Reply(reply) => {
             let descriptor = reply.descriptor;
-            put_power(descriptor, put_header(reply.header, text))
+            put_power(descriptor, put_header(reply.header, text)?)
         }
         PowerReplyRead::Refused(_) => out::byte(text, b'R'),
     }
 }
 
 // Puts a power descriptor and its available sources, each after a space, or `-` for none.
-fn put_power(descriptor: OptionPowerDescriptor, text: Text) -> Text {
+fn put_power(descriptor: OptionPowerDescriptor, text: Text) -> io::Result<Text> {
     match descriptor {
         OptionPowerDescriptor::Some(descriptor) => {
-            let text = power::put_descriptor(descriptor, out::byte(text, b' '));
-            let text = out::byte(text, b' ');
+            let text = power::put_descriptor(descriptor, out::byte(text, b' ')?)?;
+            let text = out::byte(text, b' ')?;
             out::hex_u8(text, descriptor.available_power_sources())
         }
         OptionPowerDescriptor::None => put_none(text),
@@ -139,14 +140,14 @@ fn put_power(descriptor: OptionPowerDescriptor, text: Text) -> Text {
 }
 
 // Puts an address reply, or `R`.
-fn addr(bytes: &[u8], text: Text) -> Text {
+fn addr(bytes: &[u8], text: Text) -> io::Result<Text> {
     match AddrReply::try_read(bytes) {
         AddrReplyRead::Reply(reply) => {
             let associated = reply.associated;
-            let text = put_status(reply.seq, reply.status, text);
-            let text = out::byte(text, b' ');
-            let text = out::hex_u64(text, reply.ieee_addr.0);
-            let text = put_u16(reply.nwk_addr.0, text);
+            let text = put_status(reply.seq, reply.status, text)?;
+            let text = out::byte(text, b' ')?;
+            let text = out::hex_u64(text, reply.ieee_addr.0)?;
+            let text = put_u16(reply.nwk_addr.0, text)?;
             put_associated(associated, text)
         }
         AddrReplyRead::Refused(_) => out::byte(text, b'R'),
@@ -154,12 +155,12 @@ fn addr(bytes: &[u8], text: Text) -> Text {
 }
 
 // Puts what an extended address reply adds, each after a space, or `-` for none.
-fn put_associated(associated: OptionAssociated, text: Text) -> Text {
+fn put_associated(associated: OptionAssociated, text: Text) -> io::Result<Text> {
     match associated {
         OptionAssociated::Some(associated) => {
             let devices = associated.devices;
-            let text = out::byte(text, b' ');
-            let text = put_status(associated.num_assoc_dev, associated.start_index, text);
+            let text = out::byte(text, b' ')?;
+            let text = put_status(associated.num_assoc_dev, associated.start_index, text)?;
             put_places(devices, text)
         }
         OptionAssociated::None => put_none(text),
@@ -167,7 +168,7 @@ fn put_associated(associated: OptionAssociated, text: Text) -> Text {
 }
 
 // Puts a reply that is a status alone, or `R`.
-fn status(bytes: &[u8], text: Text) -> Text {
+fn status(bytes: &[u8], text: Text) -> io::Result<Text> {
     match StatusReply::try_read(bytes) {
         StatusReplyRead::Reply(reply) => put_status(reply.seq, reply.status, text),
         StatusReplyRead::Refused(_) => out::byte(text, b'R'),
@@ -175,20 +176,20 @@ fn status(bytes: &[u8], text: Text) -> Text {
 }
 
 // Puts two numbers of one byte, such as a sequence number and a status, with a space between them.
-pub(crate) fn put_status(seq: u8, status: u8, text: Text) -> Text {
-    let text = out::hex_u8(text, seq);
-    let text = out::byte(text, b' ');
+pub(crate) fn put_status(seq: u8, status: u8, text: Text) -> io::Result<Text> {
+    let text = out::hex_u8(text, seq)?;
+    let text = out::byte(text, b' ')?;
     out::hex_u8(text, status)
 }
 
 // Puts what most replies begin with.
-pub(crate) fn put_header(header: ReplyHeader, text: Text) -> Text {
-    let text = put_status(header.seq, header.status, text);
+pub(crate) fn put_header(header: ReplyHeader, text: Text) -> io::Result<Text> {
+    let text = put_status(header.seq, header.status, text)?;
     put_u16(header.nwk_addr_of_interest.0, text)
 }
 
 // Puts `-` after a space.
-pub(crate) fn put_none(text: Text) -> Text {
-    let text = out::byte(text, b' ');
+pub(crate) fn put_none(text: Text) -> io::Result<Text> {
+    let text = out::byte(text, b' ')?;
     out::byte(text, b'-')
 }

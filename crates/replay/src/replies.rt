@@ -1,6 +1,7 @@
 // The questions about replies, and about the statuses in them (oracle/README.md, "Replies").
 use crate::out::Text;
 use crate::{bits, node, out, power, readers, words};
+use std::io;
 use zdo_addr_rsp::descriptor::{addr_rsp, addr_rsp_error};
 use zdo_desc_rsp::descriptor::{
     active_ep_rsp_error, descriptor_rsp_error, node_desc_rsp, power_desc_rsp, simple_desc_rsp_error,
@@ -33,7 +34,7 @@ enum ErrorReply {
 }
 
 // Puts the answer to a question about replies, or hands the line on.
-pub(crate) fn answer(line: &[u8], text: Text) -> Text {
+pub(crate) fn answer(line: &[u8], text: Text) -> io::Result<Text> {
     let questions = b"node_desc_rsp 1 2 N b;\
         power_desc_rsp 1 2 P S b;\
         addr_rsp 1 8 2 f b;\
@@ -52,7 +53,7 @@ pub(crate) fn answer(line: &[u8], text: Text) -> Text {
 }
 
 // Puts the answer to a question about a reply that reports an error, or hands the line on.
-fn answer_error(line: &[u8], text: Text) -> Text {
+fn answer_error(line: &[u8], text: Text) -> io::Result<Text> {
     let questions = b"addr_rsp_error 1 r 8 2 b;\
         descriptor_rsp_error 1 r 2 b;\
         active_ep_rsp_error 1 r 2 b;\
@@ -69,7 +70,7 @@ fn answer_error(line: &[u8], text: Text) -> Text {
 }
 
 // Puts the answer to a question about the status of a reason, or hands the line on.
-fn answer_status(line: &[u8], text: Text) -> Text {
+fn answer_status(line: &[u8], text: Text) -> io::Result<Text> {
     let reason = words::u8_in(line, 1);
     let questions = b"DiscoveryError::code r;\
         BindStatus::code R;\
@@ -83,7 +84,7 @@ fn answer_status(line: &[u8], text: Text) -> Text {
 }
 
 // Puts the answer to a write: behind its name stand NUMBER, arguments of its own, and BUFFER.
-fn write(line: &[u8], reply: Reply, text: Text) -> Text {
+fn write(line: &[u8], reply: Reply, text: Text) -> io::Result<Text> {
     let last = words::arguments(line);
     let mut space = [0u8; words::BYTES];
     let count = words::bytes_in(line, last, &mut space);

@@ -1,6 +1,7 @@
 // The questions about requests (oracle/README.md, "Requests").
 use crate::out::Text;
 use crate::{bindings, out, replies, words};
+use std::io;
 use zdo_bind_req::descriptor::parse_bind_req;
 use zdo_leave_req::descriptor::parse_mgmt_leave_req;
 use zdo_match_req::descriptor::parse_match_desc_req;
@@ -23,7 +24,7 @@ enum Request {
 }
 
 // Puts the answer to a question about requests, or hands the line on.
-pub(crate) fn answer(line: &[u8], text: Text) -> Text {
+pub(crate) fn answer(line: &[u8], text: Text) -> io::Result<Text> {
     let questions = b"parse_nwk_addr_req b;\
         parse_ieee_addr_req b;\
         parse_addr_of_interest b;\
@@ -46,7 +47,7 @@ pub(crate) fn answer(line: &[u8], text: Text) -> Text {
 }
 
 // Puts the request that is parsed: behind the question's name stand BYTES.
-fn parse(line: &[u8], request: Request, text: Text) -> Text {
+fn parse(line: &[u8], request: Request, text: Text) -> io::Result<Text> {
     let mut space = [0u8; words::BYTES];
     let count = words::bytes_in(line, 1, &mut space);
     let bytes = &space[0..count];
@@ -61,13 +62,13 @@ fn parse(line: &[u8], request: Request, text: Text) -> Text {
 }
 
 // Puts a request for a short address, or `R`.
-fn nwk_addr(bytes: &[u8], text: Text) -> Text {
+fn nwk_addr(bytes: &[u8], text: Text) -> io::Result<Text> {
     match descriptor::parse_nwk_addr_req(bytes) {
         NwkAddrReqRead::Request(request) => {
-            let text = out::hex_u8(text, request.seq);
-            let text = out::byte(text, b' ');
-            let text = out::hex_u64(text, request.ieee_addr.0);
-            let text = out::byte(text, b' ');
+            let text = out::hex_u8(text, request.seq)?;
+            let text = out::byte(text, b' ')?;
+            let text = out::hex_u64(text, request.ieee_addr.0)?;
+            let text = out::byte(text, b' ')?;
             out::hex_u8(text, request.request_type)
         }
         NwkAddrReqRead::Refused(_) => out::byte(text, b'R'),
@@ -75,12 +76,12 @@ fn nwk_addr(bytes: &[u8], text: Text) -> Text {
 }
 
 // Puts a request for an IEEE address, or `R`.
-fn ieee_addr(bytes: &[u8], text: Text) -> Text {
+fn ieee_addr(bytes: &[u8], text: Text) -> io::Result<Text> {
     match descriptor::parse_ieee_addr_req(bytes) {
         IeeeAddrReqRead::Request(request) => {
-            let text = out::hex_u8(text, request.seq);
-            let text = put_u16(request.nwk_addr_of_interest.0, text);
-            let text = out::byte(text, b' ');
+            let text = out::hex_u8(text, request.seq)?;
+            let text = put_u16(request.nwk_addr_of_interest.0, text)?;
+            let text = out::byte(text, b' ')?;
             out::hex_u8(text, request.request_type)
         }
         IeeeAddrReqRead::Refused(_) => out::byte(text, b'R'),
@@ -88,7 +89,7 @@ fn ieee_addr(bytes: &[u8], text: Text) -> Text {
 }
 
 // Puts the address that a request is about, or `R`.
-fn addr_of_interest(bytes: &[u8], text: Text) -> Text {
+fn addr_of_interest(bytes: &[u8], text: Text) -> io::Result<Text> {
     match descriptor::parse_addr_of_interest(bytes) {
         AddrOfInterestRead::Address(address) => out::hex_u16(text, address.0),
         AddrOfInterestRead::Refused(_) => out::byte(text, b'R'),
@@ -96,17 +97,17 @@ fn addr_of_interest(bytes: &[u8], text: Text) -> Text {
 }
 
 // Puts a match request, or `R`.
-fn match_desc(bytes: &[u8], text: Text) -> Text {
+fn match_desc(bytes: &[u8], text: Text) -> io::Result<Text> {
     match parse_match_desc_req(bytes) {
         MatchDescReqRead::Request(request) => {
             let inputs = request.input_clusters;
             let outputs = request.output_clusters;
-            let text = out::hex_u8(text, request.seq);
-            let text = put_u16(request.nwk_addr_of_interest.0, text);
-            let text = put_u16(request.profile_id, text);
-            let text = put_places(inputs, text);
-            let text = put_places(outputs, text);
-            let text = put_list(bytes, inputs, text);
+            let text = out::hex_u8(text, request.seq)?;
+            let text = put_u16(request.nwk_addr_of_interest.0, text)?;
+            let text = put_u16(request.profile_id, text)?;
+            let text = put_places(inputs, text)?;
+            let text = put_places(outputs, text)?;
+            let text = put_list(bytes, inputs, text)?;
             put_list(bytes, outputs, text)
         }
         MatchDescReqRead::Refused(_) => out::byte(text, b'R'),
@@ -114,22 +115,22 @@ fn match_desc(bytes: &[u8], text: Text) -> Text {
 }
 
 // Puts a number of two bytes after a space.
-pub(crate) fn put_u16(number: u16, text: Text) -> Text {
-    let text = out::byte(text, b' ');
+pub(crate) fn put_u16(number: u16, text: Text) -> io::Result<Text> {
+    let text = out::byte(text, b' ')?;
     out::hex_u16(text, number)
 }
 
 // Puts where a list stands, and how many entries it has, each after a space.
-pub(crate) fn put_places(list: Places, text: Text) -> Text {
-    let text = out::byte(text, b' ');
-    let text = out::decimal(text, list.start);
-    let text = out::byte(text, b' ');
+pub(crate) fn put_places(list: Places, text: Text) -> io::Result<Text> {
+    let text = out::byte(text, b' ')?;
+    let text = out::decimal(text, list.start)?;
+    let text = out::byte(text, b' ')?;
     out::decimal(text, list.count)
 }
 
 // Puts the clusters of a list in a payload after a space: `-` where there are none, and `?` for one past the end.
-fn put_list(bytes: &[u8], list: Places, text: Text) -> Text {
-    let mut text = out::byte(text, b' ');
+fn put_list(bytes: &[u8], list: Places, text: Text) -> io::Result<Text> {
+    let mut text = out::byte(text, b' ')?;
     if list.count == 0 {
         return out::byte(text, b'-');
     }
@@ -143,21 +144,21 @@ fn put_list(bytes: &[u8], list: Places, text: Text) -> Text {
             return out::byte(text, b'?');
         }
         let cluster = byte::read_u16(bytes, place);
-        text = out::hex_u16(text, cluster.value);
+        text = out::hex_u16(text, cluster.value)?;
         place = cluster.next;
         i += 1;
     }
-    text
+    Ok(text)
 }
 
 // Puts a request to bind or unbind, or `R`.
-fn bind(bytes: &[u8], text: Text) -> Text {
+fn bind(bytes: &[u8], text: Text) -> io::Result<Text> {
     match parse_bind_req(bytes) {
         BindReqRead::Request(request) => {
-            let text = out::hex_u8(text, request.seq);
-            let text = out::byte(text, b' ');
-            let text = out::hex_u64(text, request.src_address.0);
-            let text = out::byte(text, b' ');
+            let text = out::hex_u8(text, request.seq)?;
+            let text = out::byte(text, b' ')?;
+            let text = out::hex_u64(text, request.src_address.0)?;
+            let text = out::byte(text, b' ')?;
             bindings::put_entry(request.binding(), text)
         }
         BindReqRead::Refused(_) => out::byte(text, b'R'),
@@ -165,16 +166,16 @@ fn bind(bytes: &[u8], text: Text) -> Text {
 }
 
 // Puts a leave request, or `R`.
-fn mgmt_leave(bytes: &[u8], text: Text) -> Text {
+fn mgmt_leave(bytes: &[u8], text: Text) -> io::Result<Text> {
     match parse_mgmt_leave_req(bytes) {
         MgmtLeaveReqRead::Request(request) => {
             let device_address = request.device_address;
-            let text = out::hex_u8(text, request.seq);
-            let text = out::byte(text, b' ');
-            let text = put_address(device_address, text);
-            let text = out::byte(text, b' ');
-            let text = out::flag(text, request.remove_children);
-            let text = out::byte(text, b' ');
+            let text = out::hex_u8(text, request.seq)?;
+            let text = out::byte(text, b' ')?;
+            let text = put_address(device_address, text)?;
+            let text = out::byte(text, b' ')?;
+            let text = out::flag(text, request.remove_children)?;
+            let text = out::byte(text, b' ')?;
             out::flag(text, request.rejoin)
         }
         MgmtLeaveReqRead::Refused(_) => out::byte(text, b'R'),
@@ -182,7 +183,7 @@ fn mgmt_leave(bytes: &[u8], text: Text) -> Text {
 }
 
 // Puts an IEEE address, or `-` for none.
-fn put_address(address: OptionIeeeAddress, text: Text) -> Text {
+fn put_address(address: OptionIeeeAddress, text: Text) -> io::Result<Text> {
     match address {
         OptionIeeeAddress::Some(address) => out::hex_u64(text, address.0),
         OptionIeeeAddress::None => out::byte(text, b'-'),
@@ -190,7 +191,7 @@ fn put_address(address: OptionIeeeAddress, text: Text) -> Text {
 }
 
 // Puts the answer to a write: behind its name stand NUMBER SHORT BUFFER.
-fn node_desc(line: &[u8], text: Text) -> Text {
+fn node_desc(line: &[u8], text: Text) -> io::Result<Text> {
     let address = ShortAddress(words::u16_in(line, 2));
     let mut space = [0u8; words::BYTES];
     let count = words::bytes_in(line, 3, &mut space);
@@ -200,7 +201,7 @@ fn node_desc(line: &[u8], text: Text) -> Text {
 }
 
 // Puts the clusters of the requests and of the replies, and the types of an address request.
-fn constants(text: Text) -> Text {
+fn constants(text: Text) -> io::Result<Text> {
     let clusters = [
         descriptor::NWK_ADDR_REQ,
         descriptor::IEEE_ADDR_REQ,
@@ -226,11 +227,11 @@ fn constants(text: Text) -> Text {
     let mut text = text;
     let mut i: usize = 0;
     while i < 20 {
-        text = out::hex_u16(text, clusters[i]);
-        text = out::byte(text, b' ');
+        text = out::hex_u16(text, clusters[i])?;
+        text = out::byte(text, b' ')?;
         i += 1;
     }
-    text = out::hex_u8(text, descriptor::ADDR_REQUEST_SINGLE);
-    text = out::byte(text, b' ');
+    text = out::hex_u8(text, descriptor::ADDR_REQUEST_SINGLE)?;
+    text = out::byte(text, b' ')?;
     out::hex_u8(text, descriptor::ADDR_REQUEST_EXTENDED)
 }

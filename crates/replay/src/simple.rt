@@ -3,10 +3,11 @@ use crate::out::Text;
 use crate::words::{asks, u8_at, u16_at};
 use crate::{out, tables, words};
 use simple_descriptor::descriptor;
+use std::io;
 use zigbee_types::Written;
 
 // Puts the answer to a question about the simple descriptor, or hands the line on.
-pub(crate) fn answer(line: &[u8], text: Text) -> Text {
+pub(crate) fn answer(line: &[u8], text: Text) -> io::Result<Text> {
     if asks(line, b"EndpointDescriptor::write e c c b") {
         return write(line, text);
     }
@@ -14,7 +15,7 @@ pub(crate) fn answer(line: &[u8], text: Text) -> Text {
 }
 
 // Puts the answer to a write: behind its name stand ENDPOINT CLUSTERS CLUSTERS BUFFER.
-fn write(line: &[u8], text: Text) -> Text {
+fn write(line: &[u8], text: Text) -> io::Result<Text> {
     let mut space = [0u8; words::BYTES];
     let count = words::bytes_in(line, 4, &mut space);
     let buffer = &mut space[0..count];

@@ -1,10 +1,11 @@
 // The questions about device tables (oracle/README.md, "Device tables"). TABLES are three words: CLUSTERS CLUSTERS RECORDS.
-ghost use Rattle.std.specs.Prelude.{◌*◌, ◌≤◌, length};
+ghost use Rattle.std.specs.Prelude.{◌*◌, ◌^◌, ◌≤◌, ◌<◌, length};
 
 use crate::out::Text;
 use crate::words::{u8_at, u16_at};
 use crate::{out, power, requests, words};
 use node_descriptor::descriptor::NodeDescriptorConfig;
+use std::io;
 use zdo_device::descriptor::{DeviceDescriptorConfig, EndpointDescriptor, OptionEndpoint, Side};
 use zdo_device_rsp::descriptor::{active_ep_rsp, simple_desc_rsp};
 use zdo_lent_records::descriptor::{lend_active_ep_rsp, lend_matching_endpoints};
@@ -32,7 +33,7 @@ enum Form {
 }
 
 // Puts the answer to a question about tables, or hands the line on.
-pub(crate) fn answer(line: &[u8], text: Text) -> Text {
+pub(crate) fn answer(line: &[u8], text: Text) -> io::Result<Text> {
     let questions = b"endpoint c c T 1;\
         supports_endpoint c c T 1;\
         matching_endpoints b c c T b;\
@@ -49,7 +50,7 @@ pub(crate) fn answer(line: &[u8], text: Text) -> Text {
 }
 
 // Puts the record of an endpoint with its two lists, or `-`: behind the question's name stand TABLES NUMBER.
-fn endpoint(line: &[u8], text: Text) -> Text {
+fn endpoint(line: &[u8], text: Text) -> io::Result<Text> {
     let mut inputs = [0u16; words::CLUSTERS];
     let input_count = words::clusters_in(line, 1, &mut inputs);
     let mut outputs = [0u16; words::CLUSTERS];
@@ -63,15 +64,20 @@ fn endpoint(line: &[u8], text: Text) -> Text {
 }
 
 // The same, with these pools.
-fn put_endpoint<'a>(line: &[u8], inputs: &'a [u16], outputs: &'a [u16], text: Text) -> Text {
+fn put_endpoint<'a>(
+    line: &[u8],
+    inputs: &'a [u16],
+    outputs: &'a [u16],
+    text: Text,
+) -> io::Result<Text> {
     let number = words::u8_in(line, 4);
     let unused = unused_record(number, 0, inputs.len(), outputs.len());
     let device = device_of(words::word_of(line, 3), unused);
     match device.endpoint(number) {
         OptionEndpoint::Some(ep) => {
-            let text = put_fields(ep, text);
+            let text = put_fields(ep, text)?;
             let own = device.endpoint_clusters(Side::Input, number, inputs, outputs);
-            let text = put_clusters(own, text);
+            let text = put_clusters(own, text)?;
             let own = device.endpoint_clusters(Side::Output, number, inputs, outputs);
             put_clusters(own, text)
         }
@@ -80,29 +86,29 @@ fn put_endpoint<'a>(line: &[u8], inputs: &'a [u16], outputs: &'a [u16], text: Te
 }
 
 // Puts the fields of a record that stand before its parts of the pools.
-fn put_fields(ep: EndpointDescriptor, text: Text) -> Text {
-    let text = out::hex_u8(text, ep.endpoint);
-    let text = out::hex_u16(text, ep.profile_id);
-    let text = out::hex_u16(text, ep.device_id);
+fn put_fields(ep: EndpointDescriptor, text: Text) -> io::Result<Text> {
+    let text = out::hex_u8(text, ep.endpoint)?;
+    let text = out::hex_u16(text, ep.profile_id)?;
+    let text = out::hex_u16(text, ep.device_id)?;
     out::hex_u8(text, ep.device_version)
 }
 
 // Puts clusters after a space, or `-` where there are none.
-fn put_clusters(clusters: &[u16], text: Text) -> Text {
-    let mut text = out::byte(text, b' ');
+fn put_clusters(clusters: &[u16], text: Text) -> io::Result<Text> {
+    let mut text = out::byte(text, b' ')?;
     if clusters.len() == 0 {
         return out::byte(text, b'-');
     }
     let mut i: usize = 0;
     while i < clusters.len() {
-        text = out::hex_u16(text, clusters[i]);
+        text = out::hex_u16(text, clusters[i])?;
         i += 1;
     }
-    text
+    Ok(text)
 }
 
 // Puts whether there is an endpoint: behind the question's name stand TABLES NUMBER.
-fn supports_endpoint(line: &[u8], text: Text) -> Text {
+fn supports_endpoint(line: &[u8], text: Text) -> io::Result<Text> {
     let number = words::u8_in(line, 4);
     let device = device_of(words::word_of(line, 3), unused_record(number, 0, 0, 0));
     out::flag(text, device.supports_endpoint(number))
@@ -110,7 +116,7 @@ fn supports_endpoint(line: &[u8], text: Text) -> Text {
 
 // Puts the answer to a write: behind its name stand arguments of its own, TABLES and BUFFER. It is written in both forms, each on a
 // buffer of its own, and where they do not agree the answer is `differ`.
-fn write(line: &[u8], reply: Reply, text: Text) -> Text {
+fn write(line: &[u8], reply: Reply, text: Text) -> io::Result<Text> {
     let last = words::arguments(line);
     let mut space = [0u8; words::BYTES];
     let count = words::bytes_in(line, last, &mut space);
@@ -119,7 +125,7 @@ fn write(line: &[u8], reply: Reply, text: Text) -> Text {
     let lent_buffer = &mut lent_space[0..count];
     let answer = write_reply(line, reply, Form::Held, buffer);
     let lent_answer = write_reply(line, reply, Form::Lent, lent_buffer);
-    if is_same(answer, lent_answer) && check::same(buffer, lent_buffer) {
+    if is_same(answer, lent_answer) && *buffer == *lent_buffer {
         return out::written(text, answer, words::word_of(line, last), buffer);
     }
     out::copy(text, b"differ")
@@ -324,7 +330,13 @@ fn record_of(word: &[u8], i: usize, unused: EndpointDescriptor) -> EndpointDescr
     if count_of(word) <= i {
         return unused;
     }
-    let at = 14 * i;
+    record_at(word, 14 * i)
+}
+
+// The record of a word that stands behind so many bytes.
+fn record_at(word: &[u8], at: usize) -> EndpointDescriptor
+    requires { at < 2 ^ 63 }
+{
     EndpointDescriptor {
         endpoint: u8_at(word, at),
         device_version: u8_at(word, at + 5),

@@ -17,7 +17,7 @@
 //     T            endpoint records
 //     M            a server mask, or `-` for none
 // What reads a word takes any word: one of another kind gives some number, or some bytes.
-ghost use Rattle.std.specs.Prelude.{◌≤◌, ◌<◌, length};
+ghost use Rattle.std.specs.Prelude.{ℕ, ◌≡◌, ◌≢◌, ◌≤◌, ◌<◌, length, slice_index};
 
 use crate::values;
 
@@ -51,7 +51,7 @@ fn question_end(questions: &[u8], start: usize) -> usize
     requires { start ≤ length questions.now }
     ensures { (start ≤ result) × (result ≤ length questions.now) }
 {
-    bytes::scan::find(questions, start, questions.len(), b';')
+    find(questions, start, b';')
 }
 
 // Whether a line asks a question: its name, an argument of each of its kinds, and nothing else. The question is written as its
@@ -84,12 +84,12 @@ pub(crate) fn asks(line: &[u8], question: &[u8]) -> bool {
 pub(crate) fn is_named(line: &[u8], name: &[u8]) -> bool {
     let end = name.len();
     if line.len() <= end {
-        return check::same(line, name);
+        return line == name;
     }
     if line[end] != b' ' {
         return false;
     }
-    check::same(front(line, end), name)
+    front(line, end) == name
 }
 
 // Whether a word is an argument of this kind.
@@ -126,7 +126,7 @@ fn is_hex(word: &[u8], digits: usize) -> bool {
 
 // Whether a word says bytes: two digits for each, or `-` for none.
 fn is_bytes(word: &[u8]) -> bool {
-    if check::same(word, b"-") {
+    if word == b"-".as_slice() {
         return true;
     }
     if word.len() == 0 {
@@ -151,7 +151,7 @@ fn is_clusters(word: &[u8]) -> bool {
 
 // Whether a word is a flag, `0` or `1`.
 fn is_flag(word: &[u8]) -> bool {
-    check::same(word, b"0") || check::same(word, b"1")
+    word == b"0".as_slice() || word == b"1".as_slice()
 }
 
 // Whether a word is the place of a value among so many.
@@ -232,7 +232,7 @@ fn is_records(word: &[u8]) -> bool {
 
 // Whether a word says a server mask: four digits, or `-` for none.
 fn is_mask(word: &[u8]) -> bool {
-    check::same(word, b"-") || is_hex(word, 4)
+    word == b"-".as_slice() || is_hex(word, 4)
 }
 
 // Whether a word is a number in decimal, of at most nine digits, and without a zero in front that it does not need.
@@ -448,7 +448,22 @@ fn word_end(line: &[u8], start: usize) -> usize
     requires { start ≤ length line.now }
     ensures { (start ≤ result) × (result ≤ length line.now) }
 {
-    bytes::scan::find(line, start, line.len(), b' ')
+    find(line, start, b' ')
+}
+
+// The place of the first byte that is this one from a place on, or the end of the bytes where there is none.
+fn find(bytes: &[u8], start: usize, wanted: u8) -> usize
+    requires { start ≤ length bytes.now }
+    ensures within { (start ≤ result) × (result ≤ length bytes.now) }
+    ensures before { (k : ℕ) → k < result → start ≤ k → slice_index bytes.now k ≢ wanted }
+    ensures found { result < length bytes.now → slice_index bytes.now result ≡ wanted }
+{
+    for i in start..bytes.len() {
+        if bytes[i] == wanted {
+            return i;
+        }
+    }
+    bytes.len()
 }
 
 // The first bytes of a slice, so many of them, or all where it has fewer.

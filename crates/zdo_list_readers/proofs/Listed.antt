@@ -27,7 +27,8 @@ use Rattle.zdo_list_readers.specs.declared.readers.ListReplyRead.TheVariants as 
 use Rattle.zdo_list_readers.specs.declared.readers.MatchReply.TheVariants.{Matched, Failed}
 use Rattle.zdo_list_readers.specs.declared.readers.MatchReplyRead.TheVariants as match
 
--- ---- a list behind a header
+-- ---- a list behind a header: `behind` leans on these. Where the list ends and begins is said by arithmetic, so that another expression of
+-- the same number is proved too
 
 module _ (h : ReplyHeader) (bytes : List ℕ) where
   -- refused where there is no count

@@ -41,6 +41,7 @@ impl ListReply {
     }
 
     // The reply that begins with this header: its list is counted at byte 4.
+    #[tactic(auto, using(crate::proofs::Listed::list_none, crate::proofs::Listed::list_cut, crate::proofs::Listed::list_whole))]
     fn behind(header: ReplyHeader, reply: &[u8]) -> ListReplyRead
         ensures { list_reply_says result ≡ list_behind header reply.now }
     {

@@ -1,2 +1,3 @@
 pub mod Headed
 mod Longer
+mod Status

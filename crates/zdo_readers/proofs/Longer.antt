@@ -57,6 +57,11 @@ module _ {test : Bool} (bytes : List ℕ) where
   unfolding associated_in
   associated_some e p q = rw (e, p.told, q.told, q.moved, p.moved)
 
+-- what `server_mask` and `read_associated` lean on: another test of the same meaning is proved too
+pub ruleset mask_laws = (other_status, too_short, success, mask_none, mask_some)
+
+pub ruleset associated_laws = (other_status, too_short, success, associated_none, associated_some)
+
 -- ---- behind the fields in front
 
 module _ {bytes : List ℕ} where

@@ -73,6 +73,7 @@ pub fn parse_node_desc_rsp(asdu: &[u8]) -> NodeDescRspRead
 }
 
 // The server mask, which sits 8 octets into the node descriptor (2.3.2.3); absent unless the status is SUCCESS and it is there.
+#[tactic(auto, using(crate::proofs::Longer::mask_laws))]
 fn server_mask(asdu: &[u8], status: u8) -> OptionServerMask
     ensures { result ≡ server_mask_in (goes_further status asdu.now) asdu.now }
 {

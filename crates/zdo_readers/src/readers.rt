@@ -212,6 +212,7 @@ impl AddrReply {
 
 // What stands behind the two addresses, if the status is SUCCESS and there are two bytes more: NumAssocDev, StartIndex, and short
 // addresses up to the end, a single last byte ignored.
+#[tactic(auto, using(crate::proofs::Longer::associated_laws))]
 fn read_associated(reply: &[u8], status: u8) -> OptionAssociated
     ensures { result ≡ associated_in (goes_further status reply.now) reply.now }
 {
@@ -249,7 +250,7 @@ pub enum StatusReplyRead {
 
 impl StatusReply {
     // Reads a Bind_rsp, Unbind_rsp or Mgmt_Leave_rsp: seq, status.
-    #[tactic(auto, using(zigbee_types::proofs::Runs::run_short), unfolding(zigbee_types::specs::Layout::size, crate::specs::Readers::status_widths, crate::specs::Readers::status_reply_in, crate::specs::Answers::status_reply_says))]
+    #[tactic(auto, using(crate::proofs::Status::status_short, crate::proofs::Status::status_parse))]
     pub fn try_read(reply: &[u8]) -> StatusReplyRead
         ensures { status_reply_says result ≡ status_reply_in reply.now }
     {

@@ -1,4 +1,4 @@
--- The numbers that requests are told apart by (2.4.3), under the Rust's names, with hyphens: first the clusters of the ten requests.
+-- The numbers that requests are told apart by (2.4.3), under the Rust's names, with _NUMBER behind each: first the clusters of the ten requests.
 use Rattle.std.specs.Prelude.{ℕ, ◌+◌}
 
 abbrev pub NWK_ADDR_REQ_NUMBER : ℕ
