@@ -43,6 +43,11 @@ module _ (l : ListReply) (bytes : List ℕ) where
       there : simple_says read ≡ simple_descriptor_in (part l.list.start l.list.count bytes)
       there = rw (part_is bytes l.list.start end l.list.count to) at said
 
+      -- refused where no descriptor was read
+      pub within_refused : {why : Refusal} → read ≡ descriptor.Refused why → simple_reply_says (simple.Refused why) ≡ simple_within l bytes
+      unfolding simple_reply_says simple_within simple_says mapped
+      within_refused e = rw (ne_eqb _ _ long, ← there, e)
+
       -- otherwise what was read, moved to its place
       pub within_read :
           {d f : SimpleDescriptorFields}
@@ -51,10 +56,6 @@ module _ (l : ListReply) (bytes : List ℕ) where
           → simple_reply_says (simple.Reply (record { header = l.header; descriptor = Some f })) ≡ simple_within l bytes
       unfolding simple_reply_says simple_within simple_says mapped
       within_read e is = rw (ne_eqb _ _ long, ← there, e, is)
-
-      pub within_refused : {why : Refusal} → read ≡ descriptor.Refused why → simple_reply_says (simple.Refused why) ≡ simple_within l bytes
-      unfolding simple_reply_says simple_within simple_says mapped
-      within_refused e = rw (ne_eqb _ _ long, ← there, e)
 
 -- lists that were read end within the bytes
 pub lists_end :
