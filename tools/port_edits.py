@@ -62,7 +62,8 @@ def main():
     env = dict(os.environ, GIT_CONFIG_COUNT="2", GIT_CONFIG_KEY_0="user.name", GIT_CONFIG_VALUE_0="edits", GIT_CONFIG_KEY_1="user.email", GIT_CONFIG_VALUE_1="edits@example.invalid")
     for words in (["init", "-q"], ["add", "-A"], ["commit", "-qm", "before"]):
         subprocess.run(["git", *words], cwd=folder, check=True, env=env)
-    subprocess.run([sys.executable, "/opt/rattle/port/port.py"], cwd=folder, check=False, env=env)
+    kit = os.path.dirname(subprocess.run(["rt", "doc"], stdout=subprocess.PIPE, text=True, check=True).stdout.strip())
+    subprocess.run([sys.executable, os.path.join(kit, "port", "port.py")], cwd=folder, check=False, env=env)
     subprocess.run([sys.executable, os.path.join(here, "tools", "respell.py"), folder], check=True)
     turned = {}
     for crate, name, file, twin, text in made:
