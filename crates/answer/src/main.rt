@@ -3,7 +3,7 @@
 // that whoever types a line sees its answer.
 #![tactic(auto)]
 
-ghost use Rattle.std.specs.Prelude.{◌+◌, ◌≤◌, ◌<◌, length, IfOk};
+ghost use Rattle.std.specs.Prelude.{◌+◌, ◌≤◌, ◌<◌, length, IfOk, OnErr};
 
 use answer_lines::session::{LINE, Session, TEXT, Turn, line_buffer};
 use std::io;
@@ -20,10 +20,11 @@ fn write_out(rt: &impl Print, out: &[u8], end: usize) -> io::Result<()>
     rt.write_all(&out[..end])
 }
 
-// Writes out what waits where there is no room for the longest text behind it, and tells how much waits then.
+// Writes out what waits where there is no room for the longest text behind it, and tells how much waits then. Only that write fails.
 fn make_room(rt: &impl Print, out: &[u8], end: usize) -> io::Result<usize>
     requires { (end ≤ length out.now) × (262 ≤ length out.now) }
-    ensures { IfOk result (λ waits. waits + 262 ≤ length out.now) }
+    ensures room { IfOk result (λ waits. waits + 262 ≤ length out.now) }
+    ensures full { OnErr result (length out.now < end + 262) }
 {
     if out.len() - end < TEXT {
         write_out(rt, out, end)?;
