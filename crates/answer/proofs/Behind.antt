@@ -1,4 +1,5 @@
 -- Answers that wait in a buffer: what a turn writes behind them ends within it, and the turn takes a character. Assumes nothing.
+use Rattle.std.specs.Prelude.{Result, Ok}
 use Prim.Native.Nat.{ℕ, ◌+◌, ◌-◌, ◌^◌, ◌≤◌, ◌<◌}
 use native.Mathlib.Omega.{arith}
 use mathlib.Core.Path.{◌≡◌, refl}
@@ -8,10 +9,9 @@ use borrow.Author.Tests.{le-leb}
 use borrow.Rule.Slice.PartMut.{mid_of, put_mid, mid_len, same_len_mid}
 use mir.Syntax.{w64}
 use mir.Val.{Fits}
-use Rattle.zigbee_types.specs.Answers.{written_says}
+use Rattle.zigbee_types.specs.declared.Refusal.{Refusal}
+use Rattle.zigbee_types.specs.Answers.{says}
 use Rattle.zigbee_types.specs.Outcome.{Outcome, Wrote}
-use Rattle.zigbee_types.specs.declared.Written.{Written}
-use Rattle.zigbee_types.specs.declared.Written.TheVariants.{Length}
 use Rattle.zigbee_types.proofs.Outcomes.{wrote_within}
 use Rattle.aps_binding_table.specs.declared.binding.BindingTable.{BindingTable}
 use Rattle.lines.specs.Splitter.{Pending}
@@ -21,8 +21,8 @@ use Rattle.answer_lines.specs.declared.session.Turn.{Turn}
 
 -- what a writer told is within the buffer
 pub told_within :
-    (o : Outcome (List ℕ)) {before after : List ℕ} (w : Written) {n : ℕ} → Wrote o before (written_says w) after → w ≡ Length n → n ≤ length after
-unfolding written_says
+    (o : Outcome (List ℕ)) {before after : List ℕ} (w : Result ℕ Refusal) {n : ℕ} → Wrote o before (says w) after → w ≡ Ok n → n ≤ length after
+unfolding says
 told_within o w {n} wrote is =
     let inside = wrote_within o wrote in
     rw inside.same (inside.most n (rw is))

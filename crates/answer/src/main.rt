@@ -8,7 +8,6 @@ ghost use Rattle.std.specs.Prelude.{◌+◌, ◌≤◌, ◌<◌, length, IfOk, O
 use answer_lines::session::{LINE, Session, TEXT, Turn, line_buffer};
 use std::io;
 use std::io::Read;
-use zigbee_types::Written;
 
 // How many bytes the input's buffer has, and how many the answers' has.
 const CHUNK: usize = 65536;
@@ -82,7 +81,7 @@ fn answer_chunk(
 // has room for that.)
 fn finish(rt: &impl Print, session: Session, line: &[u8; LINE], out: &mut [u8]) -> io::Result<()> {
     let written = session.end(line, out);
-    if let Written::Length(n) = written {
+    if let Ok(n) = written {
         write_out(rt, out, n)?;
     }
     Ok(())

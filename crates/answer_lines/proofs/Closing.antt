@@ -1,5 +1,6 @@
 -- The end of the input: the number of bindings behind its word, its line feed, and both behind the answer to the last line. Assumes
 -- nothing.
+use Rattle.std.specs.Prelude.{Result, Ok, Err}
 use Prim.Native.Nat.{ℕ, ◌+◌, ◌-◌, ◌^◌, ◌≤◌, ◌<◌}
 use native.Mathlib.Omega.{arith}
 use mathlib.Core.Path.{◌≡◌, refl, sym}
@@ -9,11 +10,9 @@ use lib.Seq.{take_at, length-take-le}
 use borrow.Rule.Slice.PartMut.{mid_of, put_mid, mid_len}
 use mir.Syntax.{w64}
 use mir.Val.{Fits}
-use Rattle.zigbee_types.specs.Answers.{written_says}
+use Rattle.zigbee_types.specs.Answers.{says}
 use Rattle.zigbee_types.specs.Outcome.{Outcome, answer, mapped, Wrote}
 use Rattle.zigbee_types.specs.declared.Refusal.{Refusal}
-use Rattle.zigbee_types.specs.declared.Written.{Written}
-use Rattle.zigbee_types.specs.declared.Written.TheVariants.{Length, Refused}
 use Rattle.zigbee_types.proofs.Outcomes.{refused, wrote_bytes, wrote_within}
 use Rattle.aps_binding_table.specs.declared.binding.BindingTable.{BindingTable}
 use Rattle.lines.specs.Lines.{LINE_FEED, Line}
@@ -29,19 +28,19 @@ digits_few n h = length_below 19 n (omega arith)
 
 -- ---- the number behind its word
 
-module _ (n : ℕ) (small : n < 2 ^ 64) (d : Written) {before middle v : List ℕ} {told : Outcome ℕ} (room : 30 ≤ length before) (w : Wrote (answer BINDINGS) before told middle) (p : Wrote (answer (decimal n)) (mid_of 9 (length middle - 9) middle) (written_says d) v) where
+module _ (n : ℕ) (small : n < 2 ^ 64) (d : Result ℕ Refusal) {before middle v : List ℕ} {told : Outcome ℕ} (room : 30 ≤ length before) (w : Wrote (answer BINDINGS) before told middle) (p : Wrote (answer (decimal n)) (mid_of 9 (length middle - 9) middle) (says d) v) where
   word : Wrote (answer BINDINGS) before (answer 9) middle
   word = rw (text_told BINDINGS w (omega arith)) at w
 
   both : 9 + length (decimal n) ≤ length before
   both = omega (arith, digits_few n small)
 
-  told_digits : written_says d ≡ answer (length (decimal n))
+  told_digits : says d ≡ answer (length (decimal n))
   told_digits = more_told BINDINGS (decimal n) word both p
 
-  module _ {k : ℕ} (is : d ≡ Length k) where
+  module _ {k : ℕ} (is : d ≡ Ok k) where
     digits : answer k ≡ answer (length (decimal n))
-    unfolding written_says
+    unfolding says
     digits = rw is at told_digits
 
     -- the length of both is a number of the machine
@@ -52,12 +51,12 @@ module _ (n : ℕ) (small : n < 2 ^ 64) (d : Written) {before middle v : List �
         record { fits = omega (arith, digits_few n small) }
 
     pub count_written : Wrote (answer (count_text n)) before (answer (9 + k)) (put_mid 9 (length middle - 9) middle v)
-    unfolding count_text written_says
+    unfolding count_text says
     count_written = both_written BINDINGS (decimal n) word both p (rw is)
 
   -- the digits are not refused
-  pub count_refused : {why : Refusal} → d ≡ Refused why → Wrote (answer (count_text n)) before (answer 9) (put_mid 9 (length middle - 9) middle v)
-  unfolding written_says
+  pub count_refused : {why : Refusal} → d ≡ Err why → Wrote (answer (count_text n)) before (answer 9) (put_mid 9 (length middle - 9) middle v)
+  unfolding says
   count_refused is = absurd (refused (rw is at told_digits))
 
 -- ---- its line feed

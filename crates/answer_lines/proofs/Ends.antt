@@ -1,4 +1,5 @@
 -- A line feed behind a text, and texts behind one another. Assumes nothing.
+use Rattle.std.specs.Prelude.{Result, Ok, Err}
 use Prim.Native.Nat.{ℕ, ◌+◌, ◌-◌, ◌^◌, ◌≤◌, ◌<◌}
 use native.Mathlib.Numerals.{add-one}
 use native.Mathlib.Omega.{arith}
@@ -10,11 +11,9 @@ use mir.Syntax.{w64}
 use mir.Val.{Fits}
 use borrow.Author.Tests.{le-leb}
 use borrow.Rule.Slice.PartMut.{mid_of, put_mid}
-use Rattle.zigbee_types.specs.Answers.{written_says}
+use Rattle.zigbee_types.specs.Answers.{says}
 use Rattle.zigbee_types.specs.Outcome.{Outcome, answer, mapped, fitted, written, Wrote}
 use Rattle.zigbee_types.specs.declared.Refusal.{Refusal}
-use Rattle.zigbee_types.specs.declared.Written.{Written}
-use Rattle.zigbee_types.specs.declared.Written.TheVariants.{Length, Refused}
 use Rattle.zigbee_types.proofs.Fields.{sets_append}
 use Rattle.zigbee_types.proofs.Outcomes.{refused, stored_front, wrote_stored, wrote_bytes, wrote_within}
 use Rattle.zigbee_types.proofs.Parts.{part_told, part_stored}
@@ -31,11 +30,11 @@ module _ (n : ℕ) (buffer : List ℕ) where
   pub front_part : n ≤ length buffer → n ≡ length (take n buffer)
   front_part h = sym (length-take-le n buffer h)
 
-module _ (w : Written) (out : List ℕ) (told : Inside (written_says w) out) where
-  module _ {n : ℕ} (is : w ≡ Length n) where
+module _ (w : Result ℕ Refusal) (out : List ℕ) (told : Inside (says w) out) where
+  module _ {n : ℕ} (is : w ≡ Ok n) where
     -- there is a place for it
     pub end_place : n < length out
-    unfolding written_says
+    unfolding says
     end_place =
         let same = rw is at told.said in
         let long : n ≡ told.long = cc in
@@ -45,13 +44,13 @@ module _ (w : Written) (out : List ℕ) (told : Inside (written_says w) out) whe
     pub end_fits : length out < 2 ^ 64 → Fits w64 (n + 1)
     end_fits short = record { fits = omega (arith, end_place) }
 
-    pub end_put : Ends (written_says w) out (answer (n + 1)) (set out n LINE_FEED)
-    unfolding written_says line_end mapped
+    pub end_put : Ends (says w) out (answer (n + 1)) (set out n LINE_FEED)
+    unfolding says line_end mapped
     end_put = rw is (record { said = refl; left = refl })
 
   -- a text that was written was not refused
-  pub end_refused : {why : Refusal} → w ≡ Refused why → Ends (written_says w) out (answer 0) out
-  unfolding written_says
+  pub end_refused : {why : Refusal} → w ≡ Err why → Ends (says w) out (answer 0) out
+  unfolding says
   end_refused is = absurd (refused (rw is at told.said))
 
 -- ---- what it makes of a text

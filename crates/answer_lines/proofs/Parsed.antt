@@ -1,10 +1,10 @@
--- What was read of a line: a request with its payload in the buffer, or none; and that the longest line has room. Assumes nothing.
+-- What was read of a line: a request with its payload in the buffer, or None; and that the longest line has room. Assumes nothing.
+use Rattle.std.specs.Prelude.{Option, None, Some}
 use Prim.Native.Nat.{ℕ, ◌≤◌}
 use native.Mathlib.Omega.{arith}
 use mathlib.Core.Path.{◌≡◌, refl, sym}
 use mathlib.Core.Bool.{Bool, true, false, cond}
 use mathlib.Core.List.{List}
-use mathlib.Core.Option.{Option, none, some}
 use lib.Dec.{leb}
 use lib.ListN.{length, take, drop, length-append, length-drop}
 use lib.Seq.{take_at, length-take-le}
@@ -27,19 +27,19 @@ use Rattle.answer_lines.specs.Session.{QUESTION, heard, unheard, said, Tells}
 
 -- what a line came to, where its payload has room: the request, with its payload at the front of the buffer
 record Stands (o : Option Request) (cluster n : ℕ) (after : List ℕ) : Type 0 where
-  is : o ≡ some (record { cluster = cluster; payload = take n after })
+  is : o ≡ Some (record { cluster = cluster; payload = take n after })
   within : n ≤ length after
 
 stands : (o : Option Request) {before after : List ℕ} (cluster n : ℕ) → LineRead o before (line_says (parsed.Request cluster n)) after → Stands o cluster n after
 unfolding line_says with_room mapped heard_of payload_left written
-stands none cluster n l = let e = l.said in let z : ◌≡◌ {A = ℕ} 0 1 = cc in absurd (omega arith)
-stands (some q) {before} {after} cluster n l = go (leb (length q.payload) (length before)) l.said l.left
+stands None cluster n l = let e = l.said in let z : ◌≡◌ {A = ℕ} 0 1 = cc in absurd (omega arith)
+stands (Some q) {before} {after} cluster n l = go (leb (length q.payload) (length before)) l.said l.left
   where
     go :
         (t : Bool)
-        → answer (some (record { cluster = cluster; length = n })) ≡ mapped heard_of (cond t (answer (some q)) (refusal 5))
-        → after ≡ payload_left before (cond t (answer (some q)) (refusal 5))
-        → Stands (some q) cluster n after
+        → answer (Some (record { cluster = cluster; length = n })) ≡ mapped heard_of (cond t (answer (Some q)) (refusal 5))
+        → after ≡ payload_left before (cond t (answer (Some q)) (refusal 5))
+        → Stands (Some q) cluster n after
     go true e left =
         let told : ◌≡◌ {A = Heard} (record { cluster = cluster; length = n }) (record { cluster = q.cluster; length = length q.payload }) = cc in
         let same : q.cluster ≡ cluster = λ i. (sym told i).cluster in
@@ -50,25 +50,25 @@ stands (some q) {before} {after} cluster n l = go (leb (length q.payload) (lengt
         }
     go false e left = let z : ◌≡◌ {A = ℕ} 0 1 = cc in absurd (omega arith)
 
--- ---- none
+-- ---- None
 
-no_request : (o : Option Request) {before after : List ℕ} → LineRead o before (line_says parsed.Other) after → o ≡ none
+no_request : (o : Option Request) {before after : List ℕ} → LineRead o before (line_says parsed.Other) after → o ≡ None
 unfolding line_says with_room mapped heard_of
-no_request none l = refl
-no_request (some q) {before} l = go (leb (length q.payload) (length before)) l.said
+no_request None l = refl
+no_request (Some q) {before} l = go (leb (length q.payload) (length before)) l.said
   where
-    go : (t : Bool) → answer none ≡ mapped heard_of (cond t (answer (some q)) (refusal 5)) → some q ≡ none
+    go : (t : Bool) → answer None ≡ mapped heard_of (cond t (answer (Some q)) (refusal 5)) → Some q ≡ None
     go true e = let z : ◌≡◌ {A = ℕ} 0 1 = cc in absurd (omega arith)
     go false e = let z : ◌≡◌ {A = ℕ} 0 1 = cc in absurd (omega arith)
 
 -- ---- no room
 
 -- a line of at most 4096 characters has at most 2045 bytes
-payload_few : (line : List ℕ) {q : Request} → request_in line ≡ some q → length line ≤ 4096 → length q.payload ≤ 2045
+payload_few : (line : List ℕ) {q : Request} → request_in line ≡ Some q → length line ≤ 4096 → length q.payload ≤ 2045
 unfolding request_in
 payload_few line {q} e h = go (is_request line) e
   where
-    go : (t : Bool) → cond t (some (record { cluster = cluster_in line; payload = bytes_in (drop 5 line) })) none ≡ some q → length q.payload ≤ 2045
+    go : (t : Bool) → cond t (Some (record { cluster = cluster_in line; payload = bytes_in (drop 5 line) })) None ≡ Some q → length q.payload ≤ 2045
     go true e =
         let is : ◌≡◌ {A = Request} (record { cluster = cluster_in line; payload = bytes_in (drop 5 line) }) q = cc in
         rw (← is, length_bytes, length-drop) (omega arith)
@@ -83,8 +83,8 @@ never_full :
     → LineRead o before (line_says (parsed.Refused why)) after
     → ⊥
 unfolding line_says with_room mapped heard_of
-never_full line none why e h room l = let said = l.said in let z : ◌≡◌ {A = ℕ} 0 1 = cc in omega arith
-never_full line (some q) {before} why e h room l =
+never_full line None why e h room l = let said = l.said in let z : ◌≡◌ {A = ℕ} 0 1 = cc in omega arith
+never_full line (Some q) {before} why e h room l =
     let fits : length q.payload ≤ length before = omega (arith, payload_few line e h) in
     let said = rw (le-leb _ _ fits) at l.said in
     let z : ◌≡◌ {A = ℕ} 0 1 = cc in
@@ -112,7 +112,7 @@ module _ (line : List ℕ) {before buffer : List ℕ} {r : ParsedLine} (l : Line
     unfolding said option
     line_heard t h = rw there.is h
 
-  -- there is none
+  -- there is None
   pub line_unheard :
       {t : BindingTable} {out later : List ℕ} {told : Outcome ℕ}
       → r ≡ parsed.Other

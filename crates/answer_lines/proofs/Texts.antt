@@ -1,4 +1,5 @@
 -- Texts that are written: characters that a loop copies, and a refusal. Assumes nothing.
+use Rattle.std.specs.Prelude.{Ok, Err}
 use Prim.Native.Nat.{ℕ, ◌+◌, ◌≤◌, ◌<◌}
 use native.Mathlib.Numerals.{add-one}
 use native.Mathlib.Omega.{arith}
@@ -8,12 +9,11 @@ use lib.ListN.{length, get_or, take, set, length-set}
 use lib.Seq.{take-suc, take_all}
 use mir.Syntax.{w8}
 use mir.Val.{Fits}
-use Rattle.zigbee_types.specs.Answers.{written_says}
+use Rattle.zigbee_types.specs.Answers.{says}
 use Rattle.zigbee_types.specs.Outcome.{answer, Wrote}
 use Rattle.zigbee_types.specs.Refusals.{refusal_number}
 use Rattle.zigbee_types.specs.declared.Refusal.{Refusal}
 use Rattle.zigbee_types.specs.declared.Refusal.TheVariants as refusal
-use Rattle.zigbee_types.specs.declared.Written.TheVariants.{Length, Refused}
 use Rattle.zigbee_types.proofs.Outcomes.{wrote_stored, wrote_full}
 use Rattle.hex_lines.specs.Hex.{BytesPut}
 use Rattle.hex_lines.proofs.Put.{put_none, put_one, put_both}
@@ -23,8 +23,8 @@ use Rattle.answer_lines.specs.Session.{refusal_text}
 -- ---- characters
 
 -- there is no room for a text
-pub text_full : (text before : List ℕ) → length before < length text → Wrote (answer text) before (written_says (Refused refusal.ShortBuffer)) before
-unfolding written_says
+pub text_full : (text before : List ℕ) → length before < length text → Wrote (answer text) before (says (Err refusal.ShortBuffer)) before
+unfolding says
 text_full text before h = wrote_full text before h
 
 -- the first i characters of a text were copied to the front of a buffer with room for it
@@ -52,8 +52,8 @@ module _ {text before after : List ℕ} {i : ℕ} (c : Copied text i before afte
       }
 
   -- all of them
-  pub copied_end : length text ≤ i → Wrote (answer text) before (written_says (Length i)) after
-  unfolding written_says
+  pub copied_end : length text ≤ i → Wrote (answer text) before (says (Ok i)) after
+  unfolding says
   copied_end h =
       let put : BytesPut text before 0 i after = rw (take_all i text h) at c.put in
       wrote_stored text (omega (arith, put.moved)) put.left c.room
@@ -73,7 +73,7 @@ module _ (why : Refusal) where
   refusal_is = rw (decimal_one (refusal_number why) (one_digit why))
 
   -- so two characters are needed
-  pub refusal_full : (before : List ℕ) → length before < 2 → Wrote (answer (refusal_text (refusal_number why))) before (written_says (Refused refusal.ShortBuffer)) before
+  pub refusal_full : (before : List ℕ) → length before < 2 → Wrote (answer (refusal_text (refusal_number why))) before (says (Err refusal.ShortBuffer)) before
   refusal_full before h = rw refusal_is (text_full (82 ∷ (48 + refusal_number why) ∷ []) before h)
 
   module _ {n : ℕ} (is : n ≡ refusal_number why) where
@@ -82,6 +82,6 @@ module _ (why : Refusal) where
     refusal_fits = let small = one_digit why in record { fits = omega arith }
 
     pub refusal_written :
-        (before : List ℕ) → 2 ≤ length before → Wrote (answer (refusal_text (refusal_number why))) before (written_says (Length 2)) (set (set before 0 82) 1 (48 + n))
-    unfolding written_says
+        (before : List ℕ) → 2 ≤ length before → Wrote (answer (refusal_text (refusal_number why))) before (says (Ok 2)) (set (set before 0 82) 1 (48 + n))
+    unfolding says
     refusal_written before h = rw (refusal_is, is) (wrote_stored (82 ∷ (48 + refusal_number why) ∷ []) refl refl h)

@@ -1,6 +1,6 @@
 // What the program `answer` writes for a line, at the end of its input, and turn by turn (document 01, "Counter-cases").
 ghost use Rattle.std.specs.Prelude.{ℕ, ◌≤◌, ◌≡◌, length, take, drop, replicate};
-ghost use Rattle.zigbee_types.specs.Answers.{written_says};
+ghost use Rattle.zigbee_types.specs.Answers.{says};
 ghost use Rattle.zigbee_types.specs.Outcome.{answer, Wrote};
 ghost use Rattle.zigbee_types.specs.Refusals.{refusal_number};
 ghost use Rattle.lines.specs.Chunks.{found_line};
@@ -16,7 +16,7 @@ use hex_lines::{ParsedLine, parse_line, write_line};
 use lines::splitter::{Found, Splitter};
 use our_device::our_response;
 use zdo_dispatcher::dispatcher::Response;
-use zigbee_types::{Refusal, Written};
+use zigbee_types::Refusal;
 
 // The longest line, without its line feed.
 pub const LINE: usize = 4096;
@@ -55,7 +55,7 @@ pub struct Turn {
 #[derive(Clone, Copy)]
 struct Answered {
     table: BindingTable,
-    written: Written,
+    written: Result<usize, Refusal>,
 }
 
 // The same, with the line feed.
@@ -75,36 +75,36 @@ pub fn line_buffer() -> [u8; LINE]
 // ---- texts, without the line feed
 
 // Writes a text at the front of a buffer.
-fn write_text(text: &[u8], out: &mut [u8]) -> Written
-    ensures { Wrote (answer text.now) out.old (written_says result) out.new }
+fn write_text(text: &[u8], out: &mut [u8]) -> Result<usize, Refusal>
+    ensures { Wrote (answer text.now) out.old (says result) out.new }
 {
     if out.len() < text.len() {
-        return Written::Refused(Refusal::ShortBuffer);
+        return Err(Refusal::ShortBuffer);
     }
     let mut i: usize = 0;
     while i < text.len() {
         out[i] = text[i];
         i += 1;
     }
-    Written::Length(i)
+    Ok(i)
 }
 
 // Writes a refusal: `R` and its number.
-fn write_refusal(why: Refusal, out: &mut [u8]) -> Written
-    ensures { Wrote (answer (refusal_text (refusal_number why))) out.old (written_says result) out.new }
+fn write_refusal(why: Refusal, out: &mut [u8]) -> Result<usize, Refusal>
+    ensures { Wrote (answer (refusal_text (refusal_number why))) out.old (says result) out.new }
 {
     if out.len() < 2 {
-        return Written::Refused(Refusal::ShortBuffer);
+        return Err(Refusal::ShortBuffer);
     }
     out[0] = b'R';
     out[1] = b'0' + why.number();
-    Written::Length(2)
+    Ok(2)
 }
 
 // Writes what a request came to; of a reply, its bytes stand at the front of a buffer.
-fn write_response(response: Response, reply: &[u8], out: &mut [u8]) -> Written
+fn write_response(response: Response, reply: &[u8], out: &mut [u8]) -> Result<usize, Refusal>
     requires { (cluster n : ℕ) → response ≡ Response.Reply cluster n → n ≤ length reply.now }
-    ensures { Wrote (answer (response_text response reply.now)) out.old (written_says result) out.new }
+    ensures { Wrote (answer (response_text response reply.now)) out.old (says result) out.new }
 {
     match response {
         Response::Reply { cluster, length } => write_line(cluster, &reply[..length], out),
@@ -117,7 +117,7 @@ fn write_response(response: Response, reply: &[u8], out: &mut [u8]) -> Written
 
 // Answers a request.
 fn answer_request(table: BindingTable, cluster: u16, payload: &[u8], out: &mut [u8]) -> Answered
-    ensures { Tells (heard ours table (record { cluster = cluster; payload = payload.now })) 261 out.old (written_says result.written) result.table out.new }
+    ensures { Tells (heard ours table (record { cluster = cluster; payload = payload.now })) 261 out.old (says result.written) result.table out.new }
 {
     let mut reply = [0u8; ROOM];
     let responded = our_response(table, cluster, payload, &mut reply);
@@ -132,7 +132,7 @@ fn answer_request(table: BindingTable, cluster: u16, payload: &[u8], out: &mut [
 // Answers a line that is not too long. (Its payload always has room.)
 fn answer_line(table: BindingTable, line: &[u8], out: &mut [u8]) -> Answered
     requires { length line.now ≤ 4096 }
-    ensures { Tells (said ours table (whole line.now)) 261 out.old (written_says result.written) result.table out.new }
+    ensures { Tells (said ours table (whole line.now)) 261 out.old (says result.written) result.table out.new }
 {
     let mut payload = [0u8; PAYLOAD];
     let parsed = parse_line(line, &mut payload);
@@ -154,16 +154,16 @@ fn answer_line(table: BindingTable, line: &[u8], out: &mut [u8]) -> Answered
 // ---- with the line feed
 
 // Puts a line feed behind a text that was written, and tells the place behind it. (The text had room.)
-fn end_line(written: Written, out: &mut [u8]) -> usize
-    requires { Inside (written_says written) out.old }
-    ensures { Ends (written_says written) out.old (answer result) out.new }
+fn end_line(written: Result<usize, Refusal>, out: &mut [u8]) -> usize
+    requires { Inside (says written) out.old }
+    ensures { Ends (says written) out.old (answer result) out.new }
 {
     match written {
-        Written::Length(n) => {
+        Ok(n) => {
             out[n] = b'\n';
             n + 1
         }
-        Written::Refused(_) => 0,
+        Err(_) => 0,
     }
 }
 
@@ -213,8 +213,8 @@ fn write_count(count: usize, out: &mut [u8]) -> usize
     write_text(b"bindings ", out);
     let digits = write_decimal(count as u64, &mut out[9..]);
     match digits {
-        Written::Length(n) => 9 + n,
-        Written::Refused(_) => 9,
+        Ok(n) => 9 + n,
+        Err(_) => 9,
     }
 }
 
@@ -280,8 +280,8 @@ impl Session {
 
     // The last turn, the end of the input: answers the line that has begun, if it has a character, and then tells how many entries the
     // binding table holds. Too short a buffer is refused, and nothing is written.
-    pub fn end(self, line: &[u8; LINE], out: &mut [u8]) -> Written
-        ensures { Wrote (answer (ending (pending self.splitter.count line.now) self.table)) out.old (written_says result) out.new }
+    pub fn end(self, line: &[u8; LINE], out: &mut [u8]) -> Result<usize, Refusal>
+        ensures { Wrote (answer (ending (pending self.splitter.count line.now) self.table)) out.old (says result) out.new }
     {
         let table = self.table;
         let splitter = self.splitter;

@@ -6,31 +6,10 @@
 ghost use Rattle.std.specs.Prelude.{◌≡◌, ◌+◌, ◌*◌, ◌%◌, ◌≤◌, length};
 ghost use Rattle.zigbee_types.specs.Bytes.{bit_at, FieldRead, FieldPut};
 
-// A field of one byte that was read, and the place behind it.
+// What was read, and the place behind it.
 #[derive(Clone, Copy)]
-pub struct ReadU8 {
-    pub value: u8,
-    pub next: usize,
-}
-
-// A field of two bytes that was read, and the place behind it.
-#[derive(Clone, Copy)]
-pub struct ReadU16 {
-    pub value: u16,
-    pub next: usize,
-}
-
-// A field of four bytes that was read, and the place behind it.
-#[derive(Clone, Copy)]
-struct ReadU32 {
-    value: u32,
-    next: usize,
-}
-
-// A field of eight bytes that was read, and the place behind it.
-#[derive(Clone, Copy)]
-pub struct ReadU64 {
-    pub value: u64,
+pub struct Read<T> {
+    pub value: T,
     pub next: usize,
 }
 
@@ -56,50 +35,50 @@ fn join_u64(low: u32, high: u32) -> u64
 }
 
 // The byte at a place (document 01, module 1).
-pub fn read_u8(bytes: &[u8], at: usize) -> ReadU8
+pub fn read_u8(bytes: &[u8], at: usize) -> Read<u8>
     requires { at + 1 ≤ length bytes.now }
     ensures { FieldRead 1 bytes.now at result.value result.next }
 {
-    ReadU8 {
+    Read {
         value: bytes[at],
         next: at + 1,
     }
 }
 
 // The number in the two bytes at a place, the low byte first (document 01, module 1).
-pub fn read_u16(bytes: &[u8], at: usize) -> ReadU16
+pub fn read_u16(bytes: &[u8], at: usize) -> Read<u16>
     requires { at + 2 ≤ length bytes.now }
     ensures { FieldRead 2 bytes.now at result.value result.next }
 {
     let low = read_u8(bytes, at);
     let high = read_u8(bytes, low.next);
-    ReadU16 {
+    Read {
         value: join_u16(low.value, high.value),
         next: high.next,
     }
 }
 
 // The number in the four bytes at a place, the low half first.
-fn read_u32(bytes: &[u8], at: usize) -> ReadU32
+fn read_u32(bytes: &[u8], at: usize) -> Read<u32>
     requires { at + 4 ≤ length bytes.now }
     ensures { FieldRead 4 bytes.now at result.value result.next }
 {
     let low = read_u16(bytes, at);
     let high = read_u16(bytes, low.next);
-    ReadU32 {
+    Read {
         value: join_u32(low.value, high.value),
         next: high.next,
     }
 }
 
 // The number in the eight bytes at a place, the low byte first (document 01, module 1).
-pub fn read_u64(bytes: &[u8], at: usize) -> ReadU64
+pub fn read_u64(bytes: &[u8], at: usize) -> Read<u64>
     requires { at + 8 ≤ length bytes.now }
     ensures { FieldRead 8 bytes.now at result.value result.next }
 {
     let low = read_u32(bytes, at);
     let high = read_u32(bytes, low.next);
-    ReadU64 {
+    Read {
         value: join_u64(low.value, high.value),
         next: high.next,
     }

@@ -4,11 +4,11 @@ ghost use Rattle.std.specs.Prelude.{◌≤◌};
 
 use crate::print;
 use node_descriptor::descriptor::NodeDescriptorConfig;
-use node_descriptor::{LogicalType, NodeDescriptor, NodeDescriptorRead};
+use node_descriptor::{LogicalType, NodeDescriptor};
 use node_power_descriptor::descriptor::PowerDescriptorConfig;
-use node_power_descriptor::{NodePowerDescriptor, NodePowerDescriptorRead};
+use node_power_descriptor::NodePowerDescriptor;
 use power_names::{CurrentPowerMode, CurrentPowerSourceLevel, PowerSource};
-use simple_descriptor::{SimpleDescriptorFields, SimpleDescriptorRead, descriptor};
+use simple_descriptor::{SimpleDescriptorFields, descriptor};
 use std::io;
 
 // Our device (document 01, "Counter-cases").
@@ -72,8 +72,8 @@ pub(crate) fn k2(rt: &impl Print) -> io::Result<()> {
 fn print_revision(rt: &impl Print, name: &[u8], bytes: &[u8]) -> io::Result<()> {
     print::text(rt, name)?;
     match NodeDescriptor::try_read(bytes) {
-        NodeDescriptorRead::Descriptor(d) => print::decimal(rt, revision(d))?,
-        NodeDescriptorRead::Refused(why) => print::refusal(rt, why)?,
+        Ok(d) => print::decimal(rt, revision(d))?,
+        Err(why) => print::refusal(rt, why)?,
     }
     print::end_line(rt)
 }
@@ -122,8 +122,8 @@ fn print_our_power(rt: &impl Print, name: &[u8], room: usize) -> io::Result<()>
 fn print_power(rt: &impl Print, name: &[u8], bytes: &[u8; 2]) -> io::Result<()> {
     print::text(rt, name)?;
     match NodePowerDescriptor::try_read(bytes) {
-        NodePowerDescriptorRead::Descriptor(d) => print_power_fields(rt, d)?,
-        NodePowerDescriptorRead::Refused(why) => print::refusal(rt, why)?,
+        Ok(d) => print_power_fields(rt, d)?,
+        Err(why) => print::refusal(rt, why)?,
     }
     print::end_line(rt)
 }
@@ -173,8 +173,8 @@ fn differences(rt: &impl Print) -> io::Result<()> {
 fn print_simple(rt: &impl Print, name: &[u8], bytes: &[u8]) -> io::Result<()> {
     print::text(rt, name)?;
     match SimpleDescriptorFields::try_read(bytes) {
-        SimpleDescriptorRead::Descriptor(d) => print_simple_fields(rt, d)?,
-        SimpleDescriptorRead::Refused(why) => print::refusal(rt, why)?,
+        Ok(d) => print_simple_fields(rt, d)?,
+        Err(why) => print::refusal(rt, why)?,
     }
     print::end_line(rt)
 }

@@ -5,7 +5,7 @@ ghost use Rattle.std.specs.Prelude.{◌≤◌};
 
 use crate::{descriptors, print};
 use std::io;
-use zdo_device::descriptor::{DeviceDescriptorConfig, EndpointDescriptor, OptionEndpoint, Side};
+use zdo_device::descriptor::{DeviceDescriptorConfig, EndpointDescriptor, Side};
 use zdo_device_rsp::descriptor::{active_ep_rsp, simple_desc_rsp};
 use zigbee_types::ShortAddress;
 
@@ -179,10 +179,10 @@ pub(crate) fn print_endpoint<'a>(
 }
 
 // All fields of a record, if one was found.
-fn print_found(rt: &impl Print, found: OptionEndpoint) -> io::Result<()> {
+fn print_found(rt: &impl Print, found: Option<EndpointDescriptor>) -> io::Result<()> {
     match found {
-        OptionEndpoint::Some(record) => print_record(rt, record),
-        OptionEndpoint::None => print::text(rt, b" none"),
+        Some(record) => print_record(rt, record),
+        None => print::text(rt, b" none"),
     }
 }
 

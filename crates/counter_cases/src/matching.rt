@@ -7,8 +7,8 @@ use crate::{device, print};
 use std::io;
 use zdo_device::descriptor::{DeviceDescriptorConfig, EndpointDescriptor};
 use zdo_match_req::descriptor::parse_match_desc_req;
-use zdo_matching::descriptor::{Matching, matching_endpoints};
-use zdo_requests::descriptor::{MatchDescReq, MatchDescReqRead};
+use zdo_matching::descriptor::matching_endpoints;
+use zdo_requests::descriptor::MatchDescReq;
 use zigbee_types::{Places, ShortAddress};
 
 // The requests of K7, K8 and K9, this in three buffers, and then the others.
@@ -327,8 +327,8 @@ fn print_asked(rt: &impl Print, name: &[u8], payload: &[u8], room: usize) -> io:
     requires { room ≤ 4 }
 {
     match parse_match_desc_req(payload) {
-        MatchDescReqRead::Request(request) => print_our_matching(rt, name, request, payload, room),
-        MatchDescReqRead::Refused(why) => print::refusal(rt, why),
+        Ok(request) => print_our_matching(rt, name, request, payload, room),
+        Err(why) => print::refusal(rt, why),
     }
 }
 
@@ -378,9 +378,9 @@ fn print_matching<'a>(
 }
 
 // How many endpoints were written, or the refusal.
-fn print_matched(rt: &impl Print, matching: Matching) -> io::Result<()> {
+fn print_matched(rt: &impl Print, matching: Result<Matched, Refusal>) -> io::Result<()> {
     match matching {
-        Matching::Matched(matched) => print::decimal(rt, matched.written),
-        Matching::Refused(why) => print::refusal(rt, why),
+        Ok(matched) => print::decimal(rt, matched.written),
+        Err(why) => print::refusal(rt, why),
     }
 }

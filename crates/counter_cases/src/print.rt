@@ -1,6 +1,6 @@
 // Printing, to the standard output.
 use std::io;
-use zigbee_types::{Refusal, Written};
+use zigbee_types::Refusal;
 
 // Characters as they are.
 pub(crate) fn text(rt: &impl Print, characters: &[u8]) -> io::Result<()> {
@@ -80,10 +80,10 @@ pub(crate) fn refusal(rt: &impl Print, why: Refusal) -> io::Result<()> {
 }
 
 // How many bytes a writer wrote, or why it wrote none, and all of the buffer then. Ends the line.
-pub(crate) fn written(rt: &impl Print, written: Written, buffer: &[u8]) -> io::Result<()> {
+pub(crate) fn written(rt: &impl Print, written: Result<usize, Refusal>, buffer: &[u8]) -> io::Result<()> {
     match written {
-        Written::Length(count) => decimal(rt, count)?,
-        Written::Refused(why) => refusal(rt, why)?,
+        Ok(count) => decimal(rt, count)?,
+        Err(why) => refusal(rt, why)?,
     }
     bytes(rt, buffer)?;
     end_line(rt)

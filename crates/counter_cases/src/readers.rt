@@ -4,17 +4,9 @@ ghost use Rattle.std.specs.Prelude.{◌≤◌, length};
 
 use crate::{descriptors, print};
 use std::io;
-use zdo_list_readers::readers::{
-    ListReply, ListReplyRead, MatchReply, MatchReplyRead, OptionSimpleDescriptor, SimpleReply,
-    SimpleReplyRead,
-};
-use zdo_readers::descriptor::{
-    NodeDescRsp, NodeDescRspRead, OptionServerMask, OptionStackRevision, parse_node_desc_rsp,
-};
-use zdo_readers::readers::{
-    AddrReply, AddrReplyRead, NodeReply, NodeReplyRead, OptionAssociated, OptionNodeDescriptor,
-    OptionPowerDescriptor, PowerReply, PowerReplyRead, ReplyHeader, StatusReply, StatusReplyRead,
-};
+use zdo_list_readers::readers::{ListReply, MatchReply, SimpleReply};
+use zdo_readers::descriptor::{NodeDescRsp, parse_node_desc_rsp};
+use zdo_readers::readers::{AddrReply, NodeReply, PowerReply, ReplyHeader, StatusReply};
 
 // The readers. Mask is the Rust's, of a node reply's server mask; Status reads bind, unbind and leave replies.
 #[derive(Clone, Copy)]
@@ -189,8 +181,8 @@ fn print_fields(rt: &impl Print, reader: Reader, reply: &[u8]) -> io::Result<()>
 // What the Rust's reader gives of a node reply.
 fn print_mask(rt: &impl Print, reply: &[u8]) -> io::Result<()> {
     match parse_node_desc_rsp(reply) {
-        NodeDescRspRead::Reply(rsp) => print_mask_fields(rt, rsp),
-        NodeDescRspRead::Refused(why) => print::refusal(rt, why),
+        Ok(rsp) => print_mask_fields(rt, rsp),
+        Err(why) => print::refusal(rt, why),
     }
 }
 
@@ -201,12 +193,12 @@ fn print_mask_fields(rt: &impl Print, rsp: NodeDescRsp) -> io::Result<()> {
     print::word(rt, rsp.nwk_addr_of_interest.0)?;
     let server_mask = rsp.server_mask;
     match server_mask {
-        OptionServerMask::Some(mask) => print::word(rt, mask)?,
-        OptionServerMask::None => print_none(rt)?,
+        Some(mask) => print::word(rt, mask)?,
+        None => print_none(rt)?,
     }
     match rsp.stack_revision() {
-        OptionStackRevision::Some(revision) => print::decimal(rt, revision as usize),
-        OptionStackRevision::None => print_none(rt),
+        Some(revision) => print::decimal(rt, revision as usize),
+        None => print_none(rt),
     }
 }
 
@@ -225,38 +217,38 @@ fn print_header(rt: &impl Print, header: ReplyHeader) -> io::Result<()> {
 // The header of a node reply, and the stack revision in its descriptor.
 fn print_node(rt: &impl Print, reply: &[u8]) -> io::Result<()> {
     match NodeReply::try_read(reply) {
-        NodeReplyRead::Reply(node) => {
+        Ok(node) => {
             print_header(rt, node.header)?;
             let descriptor = node.descriptor;
             match descriptor {
-                OptionNodeDescriptor::Some(d) => print::decimal(rt, descriptors::revision(d)),
-                OptionNodeDescriptor::None => print_none(rt),
+                Some(d) => print::decimal(rt, descriptors::revision(d)),
+                None => print_none(rt),
             }
         }
-        NodeReplyRead::Refused(why) => print::refusal(rt, why),
+        Err(why) => print::refusal(rt, why),
     }
 }
 
 // The header of a power reply, and its descriptor's fields.
 fn print_power(rt: &impl Print, reply: &[u8]) -> io::Result<()> {
     match PowerReply::try_read(reply) {
-        PowerReplyRead::Reply(power) => {
+        Ok(power) => {
             print_header(rt, power.header)?;
             let descriptor = power.descriptor;
             match descriptor {
-                OptionPowerDescriptor::Some(d) => descriptors::print_power_fields(rt, d),
-                OptionPowerDescriptor::None => print_none(rt),
+                Some(d) => descriptors::print_power_fields(rt, d),
+                None => print_none(rt),
             }
         }
-        PowerReplyRead::Refused(why) => print::refusal(rt, why),
+        Err(why) => print::refusal(rt, why),
     }
 }
 
 // The fields of an active reply.
 fn print_active(rt: &impl Print, reply: &[u8]) -> io::Result<()> {
     match ListReply::try_read(reply) {
-        ListReplyRead::Reply(list) => print_list(rt, list),
-        ListReplyRead::Refused(why) => print::refusal(rt, why),
+        Ok(list) => print_list(rt, list),
+        Err(why) => print::refusal(rt, why),
     }
 }
 
@@ -271,36 +263,36 @@ fn print_list(rt: &impl Print, list: ListReply) -> io::Result<()> {
 // The fields of a match reply; of an error the first two bytes alone.
 fn print_match(rt: &impl Print, reply: &[u8]) -> io::Result<()> {
     match MatchReply::try_read(reply) {
-        MatchReplyRead::Reply(matched) => match matched {
+        Ok(matched) => match matched {
             MatchReply::Matched(list) => print_list(rt, list),
             MatchReply::Failed(error) => {
                 print::byte(rt, error.seq)?;
                 print::byte(rt, error.status)
             }
         },
-        MatchReplyRead::Refused(why) => print::refusal(rt, why),
+        Err(why) => print::refusal(rt, why),
     }
 }
 
 // The header of a simple reply, and its descriptor's fields.
 fn print_simple(rt: &impl Print, reply: &[u8]) -> io::Result<()> {
     match SimpleReply::try_read(reply) {
-        SimpleReplyRead::Reply(simple) => {
+        Ok(simple) => {
             print_header(rt, simple.header)?;
             let descriptor = simple.descriptor;
             match descriptor {
-                OptionSimpleDescriptor::Some(d) => descriptors::print_simple_fields(rt, d),
-                OptionSimpleDescriptor::None => print_none(rt),
+                Some(d) => descriptors::print_simple_fields(rt, d),
+                None => print_none(rt),
             }
         }
-        SimpleReplyRead::Refused(why) => print::refusal(rt, why),
+        Err(why) => print::refusal(rt, why),
     }
 }
 
 // The fields of an address reply.
 fn print_address(rt: &impl Print, reply: &[u8]) -> io::Result<()> {
     match AddrReply::try_read(reply) {
-        AddrReplyRead::Reply(address) => {
+        Ok(address) => {
             print::byte(rt, address.seq)?;
             print::byte(rt, address.status)?;
             print::hex(rt, address.ieee_addr.0, 16)?;
@@ -308,31 +300,31 @@ fn print_address(rt: &impl Print, reply: &[u8]) -> io::Result<()> {
             let associated = address.associated;
             print_associated(rt, associated)
         }
-        AddrReplyRead::Refused(why) => print::refusal(rt, why),
+        Err(why) => print::refusal(rt, why),
     }
 }
 
 // What an extended address reply adds.
-fn print_associated(rt: &impl Print, associated: OptionAssociated) -> io::Result<()> {
+fn print_associated(rt: &impl Print, associated: Option<Associated>) -> io::Result<()> {
     match associated {
-        OptionAssociated::Some(more) => {
+        Some(more) => {
             print::byte(rt, more.num_assoc_dev)?;
             print::byte(rt, more.start_index)?;
             let devices = more.devices;
             print::decimal(rt, devices.start)?;
             print::decimal(rt, devices.count)
         }
-        OptionAssociated::None => print_none(rt),
+        None => print_none(rt),
     }
 }
 
 // The two bytes of a bind, unbind or leave reply.
 fn print_status(rt: &impl Print, reply: &[u8]) -> io::Result<()> {
     match StatusReply::try_read(reply) {
-        StatusReplyRead::Reply(answer) => {
+        Ok(answer) => {
             print::byte(rt, answer.seq)?;
             print::byte(rt, answer.status)
         }
-        StatusReplyRead::Refused(why) => print::refusal(rt, why),
+        Err(why) => print::refusal(rt, why),
     }
 }

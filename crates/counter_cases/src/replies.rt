@@ -12,7 +12,7 @@ use zdo_match_rsp::descriptor::{match_desc_rsp, match_desc_rsp_error};
 use zdo_replies::descriptor::{BindStatus, DiscoveryError, bind_rsp, leave_status, mgmt_leave_rsp};
 use zdo_replies::management::NlmeLeaveStatus;
 use zdo_requests::descriptor::node_desc_req;
-use zigbee_types::{IeeeAddress, ShortAddress, Written};
+use zigbee_types::{IeeeAddress, ShortAddress};
 
 // What is written here: replies of each kind, and the one request.
 #[derive(Clone, Copy)]
@@ -122,7 +122,7 @@ fn print_frame(rt: &impl Print, name: &[u8], frame: Frame, room: usize) -> io::R
 }
 
 // Writes a frame. Our device's addresses are in the replies, another device's in the request and the errors.
-fn write(frame: Frame, out: &mut [u8]) -> Written {
+fn write(frame: Frame, out: &mut [u8]) -> Result<usize, Refusal> {
     let ieee = IeeeAddress(0x0102030405060708);
     let short = ShortAddress(0x1234);
     match frame {
@@ -139,7 +139,7 @@ fn write(frame: Frame, out: &mut [u8]) -> Written {
 }
 
 // Writes a reply that reports an error.
-fn write_error(kind: ErrorKind, error: DiscoveryError, out: &mut [u8]) -> Written {
+fn write_error(kind: ErrorKind, error: DiscoveryError, out: &mut [u8]) -> Result<usize, Refusal> {
     let ieee = IeeeAddress(0xF8F7F6F5F4F3F2F1);
     let short = ShortAddress(0x5678);
     match kind {
@@ -173,7 +173,7 @@ fn print_many(rt: &impl Print, name: &[u8], count: usize, room: usize) -> io::Re
 }
 
 // Of a buffer of so many bytes, the byte of the count, that of the first endpoint, and the last two.
-fn print_ends(rt: &impl Print, written: Written, out: &[u8; 261], room: usize) -> io::Result<()>
+fn print_ends(rt: &impl Print, written: Result<usize, Refusal>, out: &[u8; 261], room: usize) -> io::Result<()>
     requires { (2 ≤ room) × (room ≤ 261) }
 {
     print::written(rt, written, &[out[4], out[5], out[room - 2], out[room - 1]])

@@ -8,11 +8,7 @@ use zdo_bind_req::descriptor::parse_bind_req;
 use zdo_leave_req::descriptor::parse_mgmt_leave_req;
 use zdo_match_req::descriptor::parse_match_desc_req;
 use zdo_requests::descriptor;
-use zdo_requests::descriptor::{
-    AddrOfInterestRead, AddrOfInterestReqRead, BindReqDestination, BindReqRead, IeeeAddrReqRead,
-    MatchDescReqRead, MgmtLeaveReq, MgmtLeaveReqRead, NwkAddrReqRead, OptionIeeeAddress,
-    SimpleDescReqRead,
-};
+use zdo_requests::descriptor::{BindReqDestination, MgmtLeaveReq};
 
 // The kinds of requests. Node, power and active requests are one kind.
 #[derive(Clone, Copy)]
@@ -207,58 +203,58 @@ fn print_fields(rt: &impl Print, kind: Kind, asdu: &[u8]) -> io::Result<()> {
 // The fields of a NWK_addr_req.
 fn print_nwk_addr(rt: &impl Print, asdu: &[u8]) -> io::Result<()> {
     match descriptor::parse_nwk_addr_req(asdu) {
-        NwkAddrReqRead::Request(request) => {
+        Ok(request) => {
             print::byte(rt, request.seq)?;
             print::hex(rt, request.ieee_addr.0, 16)?;
             print::byte(rt, request.request_type)
         }
-        NwkAddrReqRead::Refused(why) => print::refusal(rt, why),
+        Err(why) => print::refusal(rt, why),
     }
 }
 
 // The fields of an IEEE_addr_req.
 fn print_ieee_addr(rt: &impl Print, asdu: &[u8]) -> io::Result<()> {
     match descriptor::parse_ieee_addr_req(asdu) {
-        IeeeAddrReqRead::Request(request) => {
+        Ok(request) => {
             print::byte(rt, request.seq)?;
             print::word(rt, request.nwk_addr_of_interest.0)?;
             print::byte(rt, request.request_type)
         }
-        IeeeAddrReqRead::Refused(why) => print::refusal(rt, why),
+        Err(why) => print::refusal(rt, why),
     }
 }
 
 // The fields of a node, power or active request, and then what is read for its address alone.
 fn print_node(rt: &impl Print, asdu: &[u8]) -> io::Result<()> {
     match descriptor::parse_addr_of_interest_req(asdu) {
-        AddrOfInterestReqRead::Request(request) => {
+        Ok(request) => {
             print::byte(rt, request.seq)?;
             print::word(rt, request.nwk_addr_of_interest.0)?;
         }
-        AddrOfInterestReqRead::Refused(why) => print::refusal(rt, why)?,
+        Err(why) => print::refusal(rt, why)?,
     }
     match descriptor::parse_addr_of_interest(asdu) {
-        AddrOfInterestRead::Address(address) => print::word(rt, address.0),
-        AddrOfInterestRead::Refused(why) => print::refusal(rt, why),
+        Ok(address) => print::word(rt, address.0),
+        Err(why) => print::refusal(rt, why),
     }
 }
 
 // The fields of a simple request.
 fn print_simple(rt: &impl Print, asdu: &[u8]) -> io::Result<()> {
     match descriptor::parse_simple_desc_req(asdu) {
-        SimpleDescReqRead::Request(request) => {
+        Ok(request) => {
             print::byte(rt, request.seq)?;
             print::word(rt, request.nwk_addr_of_interest.0)?;
             print::byte(rt, request.endpoint)
         }
-        SimpleDescReqRead::Refused(why) => print::refusal(rt, why),
+        Err(why) => print::refusal(rt, why),
     }
 }
 
 // The fields of a match request, each list by its place and its count.
 fn print_match(rt: &impl Print, asdu: &[u8]) -> io::Result<()> {
     match parse_match_desc_req(asdu) {
-        MatchDescReqRead::Request(request) => {
+        Ok(request) => {
             print::byte(rt, request.seq)?;
             print::word(rt, request.nwk_addr_of_interest.0)?;
             print::word(rt, request.profile_id)?;
@@ -267,14 +263,14 @@ fn print_match(rt: &impl Print, asdu: &[u8]) -> io::Result<()> {
             print::decimal(rt, request.output_clusters.start)?;
             print::decimal(rt, request.output_clusters.count)
         }
-        MatchDescReqRead::Refused(why) => print::refusal(rt, why),
+        Err(why) => print::refusal(rt, why),
     }
 }
 
 // The fields of a bind request, the last a group, or a device and its endpoint.
 fn print_bind(rt: &impl Print, asdu: &[u8]) -> io::Result<()> {
     match parse_bind_req(asdu) {
-        BindReqRead::Request(request) => {
+        Ok(request) => {
             print::byte(rt, request.seq)?;
             print::hex(rt, request.src_address.0, 16)?;
             print::byte(rt, request.src_endpoint)?;
@@ -282,7 +278,7 @@ fn print_bind(rt: &impl Print, asdu: &[u8]) -> io::Result<()> {
             let destination = request.destination;
             print_destination(rt, destination)
         }
-        BindReqRead::Refused(why) => print::refusal(rt, why),
+        Err(why) => print::refusal(rt, why),
     }
 }
 
@@ -304,8 +300,8 @@ fn print_destination(rt: &impl Print, destination: BindReqDestination) -> io::Re
 // The fields of a leave request, or the refusal.
 fn print_leave(rt: &impl Print, asdu: &[u8]) -> io::Result<()> {
     match parse_mgmt_leave_req(asdu) {
-        MgmtLeaveReqRead::Request(request) => print_leave_fields(rt, request),
-        MgmtLeaveReqRead::Refused(why) => print::refusal(rt, why),
+        Ok(request) => print_leave_fields(rt, request),
+        Err(why) => print::refusal(rt, why),
     }
 }
 
@@ -314,8 +310,8 @@ pub(crate) fn print_leave_fields(rt: &impl Print, request: MgmtLeaveReq) -> io::
     print::byte(rt, request.seq)?;
     let device_address = request.device_address;
     match device_address {
-        OptionIeeeAddress::Some(address) => print::hex(rt, address.0, 16)?,
-        OptionIeeeAddress::None => print::text(rt, b" none")?,
+        Some(address) => print::hex(rt, address.0, 16)?,
+        None => print::text(rt, b" none")?,
     }
     print::decimal(rt, request.remove_children as usize)?;
     print::decimal(rt, request.rejoin as usize)

@@ -4,10 +4,10 @@
 ghost use Rattle.std.specs.Prelude.{◌≡◌, ◌≤◌, length};
 ghost use Rattle.std.proofs.lemmas.List.Edits.{sets};
 ghost use Rattle.zigbee_types.specs.Outcome.{answer, Wrote};
-ghost use Rattle.zigbee_types.specs.Answers.{written_says};
+ghost use Rattle.zigbee_types.specs.Answers.{says};
 ghost use Rattle.decimal.specs.Decimal.{decimal};
 
-use zigbee_types::{Refusal, Written};
+use zigbee_types::Refusal;
 
 // How many digits a number has.
 fn digit_count(n: u64) -> usize
@@ -36,11 +36,11 @@ fn put_decimal(out: &mut [u8], n: u64) -> usize
 
 // Writes a number in decimal at the front of a buffer, most significant digit first. Too short a buffer is refused, and nothing is
 // written.
-pub fn write_decimal(n: u64, out: &mut [u8]) -> Written
-    ensures { Wrote (answer (decimal n)) out.old (written_says result) out.new }
+pub fn write_decimal(n: u64, out: &mut [u8]) -> Result<usize, Refusal>
+    ensures { Wrote (answer (decimal n)) out.old (says result) out.new }
 {
     if out.len() < digit_count(n) {
-        return Written::Refused(Refusal::ShortBuffer);
+        return Err(Refusal::ShortBuffer);
     }
-    Written::Length(put_decimal(out, n))
+    Ok(put_decimal(out, n))
 }

@@ -18,7 +18,7 @@ use Rattle.zdo_requests.specs.Requests.{nwk_addr_req_in, ieee_addr_req_in, addr_
 use Rattle.zdo_replies.specs.Replies.{header, node_desc_rsp, power_desc_rsp, descriptor_rsp_error, endpoint_list, list_rsp, empty_rsp, match_error_fields, match_desc_rsp_error, described_rsp, addr_header, addr_rsp_single, addr_rsp_extended, addr_rsp, status_fields, status_rsp}
 use Rattle.zdo_readers.specs.Readers.{header_widths, header_in, descriptor_reply_in, node_reply_in, power_reply_in, server_mask_in, node_desc_rsp_in, stack_revision_of, associated_in, addr_widths, addr_reply_in, status_widths, status_reply_in}
 use Rattle.zdo_list_readers.specs.ListReaders.{list_behind, list_reply_in, match_error_widths, match_reply_in_as, match_reply_in, shifted, shifted_fields, simple_within, simple_reply_in}
-use Rattle.zdo_device.specs.Tables.{used, endpoint_record, endpoint_says, supports_endpoint, record_fits, good_sizes, good_records, good_device, endpoint_of, resolved_in, clusters_of, endpoint_clusters}
+use Rattle.zdo_device.specs.Tables.{used, endpoint_record, supports_endpoint, record_fits, good_sizes, good_records, good_device, endpoint_of, resolved_in, clusters_of, endpoint_clusters}
 use Rattle.zdo_matching.specs.Matching.{wanted, profile_matches, shared, matches, match_list, good_places, matched_in, matched_records, matching_endpoints}
 use Rattle.zdo_matching.specs.Answers.{matching_says}
 use Rattle.zdo_device_rsp.specs.TableReplies.{numbers, active_rsp_of, active_records, active_ep_rsp, simple_rsp_of, simple_desc_rsp}

@@ -1,11 +1,11 @@
 -- Each request comes to a reply of the length that its buffer must have, to a leave, or to a refusal by one of the five numbers, and to
 -- each exactly for document 01's reason; a refusal keeps table and buffer. Assumes nothing.
+use Rattle.std.specs.Prelude.{Option, None, Some}
 use Prim.Native.Nat.{ℕ, ◌+◌, ◌*◌, ◌≤◌}
 use native.Mathlib.Omega.{arith}
 use mathlib.Core.Path.{◌≡◌, refl, sym, ap, ◌∙◌}
 use mathlib.Core.Bool.{Bool, true, false, ◌||◌, ◌&&◌, not, cond, false≢true, or-false, or-true, and-eq-true_iff}
 use mathlib.Core.List.{List, [], ◌∷◌, map}
-use mathlib.Core.Option.{Option, none, some}
 use lib.Dec.{eqb, leb, ltb}
 use lib.ListN.{length, drop, length-take, length-drop, length-map}
 use lib.Seq.{length-take-le}
@@ -26,7 +26,7 @@ use Rattle.zdo_requests.specs.Requests.{nwk_addr_req_in, ieee_addr_req_in, addr_
 use Rattle.zdo_requests.specs.declared.descriptor.MatchDescReq.{MatchDescReq}
 use Rattle.zdo_requests.specs.declared.descriptor.BindReq.{BindReq}
 use Rattle.zdo_replies.specs.Replies.{addr_rsp, addr_rsp_single, list_rsp, empty_rsp, match_desc_rsp_error, described_rsp, status_rsp}
-use Rattle.zdo_device.specs.Tables.{Pools, used, endpoint_record, endpoint_says, record_fits, good_sizes, good_records, good_device, endpoint_of}
+use Rattle.zdo_device.specs.Tables.{Pools, used, endpoint_record, record_fits, good_sizes, good_records, good_device, endpoint_of}
 use Rattle.zdo_device.specs.declared.descriptor.EndpointDescriptor.{EndpointDescriptor}
 use Rattle.zdo_device.specs.declared.descriptor.DeviceDescriptorConfig.{DeviceDescriptorConfig}
 use Rattle.zdo_device.proofs.Records.{good_found}
@@ -148,7 +148,7 @@ greater_few m n b c d less = go (leb m 32) refl
     go true e = rw (le-leb n 32 (omega (arith, leb-true m 32 e)))
     go false e = refl
 
--- all pass a test exactly if none fails it
+-- all pass a test exactly if None fails it
 none_fails : {A : Type 0} (p q : A → Bool) → ((x : A) → p x ≡ not (q x)) → (xs : List A) → all p xs ≡ not (any q xs)
 unfolding all any
 none_fails p q same [] = refl
@@ -271,8 +271,8 @@ module _ (seq : ℕ) (address : ShortAddress) where
       → mapped length (option (empty_rsp seq NOT_ACTIVE address) (λ e. described_rsp seq address (endpoint_of p e)) found)
       ≡ cond (option false (λ e. ltb 28 (record_clusters e)) found) (refusal 4) (answer (option 5 (λ e. 13 + 2 * record_clusters e) found))
   unfolding option endpoint_says
-  simple_sized p d n good none f = reply_lengths.list_error seq NOT_ACTIVE address
-  simple_sized p d n good (some e) f = rw (← clusters_counted p e (good_found p d good n refl (sym f))) (described_sized (endpoint_of p e) _ refl)
+  simple_sized p d n good None f = reply_lengths.list_error seq NOT_ACTIVE address
+  simple_sized p d n good (Some e) f = rw (← clusters_counted p e (good_found p d good n refl (sym f))) (described_sized (endpoint_of p e) _ refl)
 
   -- a reply that lists a number for each of these
   list_length : {A : Type 0} (xs : List A) (f : A → ℕ) → mapped length (list_rsp seq address (map f xs)) ≡ answer (5 + length xs)
@@ -354,11 +354,11 @@ data Each (P : ℕ → Type 0) : List ℕ → Type 0 where
   end : Each P []
   ◌&◌ : {x : ℕ} {xs : List ℕ} → P x → Each P xs → Each P (x ∷ xs)
 
--- any number has it, if each of these has it and a number that is none of them
+-- any number has it, if each of these has it and a number that is None of them
 each_or_none : (P : ℕ → Type 0) (c : ℕ) (xs : List ℕ) → Each P xs → (Each (λ x. eqb c x ≡ false) xs → P c) → P c
 each_or_none P c [] end other = other end
 each_or_none P c (x ∷ xs) (here & behind) other =
-    (elim (eqb c x) as (λ t. eqb c x ≡ t → P c) [ true ↦ λ e. rw (eqb-true c x e) here | false ↦ λ e. each_or_none P c xs behind (λ none. other (e & none)) ]) refl
+    (elim (eqb c x) as (λ t. eqb c x ≡ t → P c) [ true ↦ λ e. rw (eqb-true c x e) here | false ↦ λ e. each_or_none P c xs behind (λ None. other (e & None)) ]) refl
 
 module _ (h : Host) (t : BindingTable) (payload : List ℕ) (room : ℕ) where
   -- the request of a cluster

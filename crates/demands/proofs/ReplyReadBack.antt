@@ -1,11 +1,11 @@
 -- A reply that was written reads back, for each writer and its reader. From the laws of tables of fields, of lists and of descriptors.
 -- Assumes nothing.
+use Rattle.std.specs.Prelude.{Option, Some, None}
 use Prim.Native.Nat.{ℕ, ◌+◌, ◌-◌, ◌*◌, ◌/◌, ◌%◌, ◌≤◌, ◌<◌, min}
 use native.Mathlib.Omega.{arith}
 use mathlib.Core.Path.{◌≡◌, refl, sym, ap}
 use mathlib.Core.Bool.{Bool, true, false, ◌&&◌, cond}
 use mathlib.Core.List.{List, [], ◌∷◌, ◌++◌, map, map-map, append_assoc, append-nil}
-use mathlib.Core.Option.{Option, none, some}
 use lib.Dec.{eqb, leb}
 use lib.ListN.{length, take, drop, replicate, length-append, length-map, length-take}
 use lib.Seq.{take_at, drop_at}
@@ -37,15 +37,9 @@ use Rattle.zdo_device.specs.declared.descriptor.DeviceDescriptorConfig.{DeviceDe
 use Rattle.zdo_device_rsp.specs.TableReplies.{numbers, active_rsp_of, active_ep_rsp, simple_rsp_of, simple_desc_rsp}
 use Rattle.zdo_device_rsp.proofs.Described.{as_list}
 use Rattle.zdo_readers.specs.Readers.{header_widths, header_in, descriptor_reply_in, node_with, node_without, node_reply_in, node_desc_rsp_in, power_with, power_without, power_reply_in, associated_in, addr_widths, addr_reply_in, status_widths, status_reply_in}
-use Rattle.zdo_readers.specs.declared.descriptor.OptionServerMask.{OptionServerMask}
-use Rattle.zdo_readers.specs.declared.descriptor.OptionServerMask.TheVariants as mask
 use Rattle.zdo_readers.specs.declared.readers.ReplyHeader.{ReplyHeader}
 use Rattle.zdo_readers.specs.declared.readers.NodeReply.{NodeReply}
-use Rattle.zdo_readers.specs.declared.readers.OptionNodeDescriptor.{OptionNodeDescriptor}
-use Rattle.zdo_readers.specs.declared.readers.OptionNodeDescriptor.TheVariants as node
-use Rattle.zdo_readers.specs.declared.readers.OptionAssociated.TheVariants as associated
 use Rattle.zdo_list_readers.specs.ListReaders.{list_behind, list_reply_in, match_error_widths, match_reply_in_as, match_reply_in, shifted, shifted_fields, simple_within, simple_reply_in}
-use Rattle.zdo_list_readers.specs.declared.readers.OptionSimpleDescriptor.TheVariants as simple
 use Rattle.demands.specs.ReplyReadBack.{ReadsAs, ReadsAloneAs, Failing, cut_header, some_node, node_said, node_read, power_said, power_read, list_said, list_read, found, failed, match_read, simple_said, simple_read, addr_read, bare, cut_addr, no_devices, cut_simple, RepliesReadBack}
 use Rattle.demands.specs.TwoReaders.{mask_of, rsp_of, in_brief}
 use Rattle.demands.specs.ReadBack.{cut_node, cut_power, cut_endpoint}
@@ -85,9 +79,9 @@ module _
     -- with SUCCESS, the fields that are read behind the header
     described_back :
         (fs : List Field) (rest : List ℕ)
-        → ((h : ReplyHeader) (d : D) → said (with h d) ≡ (h, some (fields d)))
+        → ((h : ReplyHeader) (d : D) → said (with h d) ≡ (h, Some (fields d)))
         → mapped said (descriptor_reply_in descriptorIn with without (laid (header seq SUCCESS a ++ fs) ++ rest))
-        ≡ mapped (λ c. (cut_header seq SUCCESS a, some c)) (mapped fields (descriptorIn (laid fs ++ rest)))
+        ≡ mapped (λ c. (cut_header seq SUCCESS a, Some c)) (mapped fields (descriptorIn (laid fs ++ rest)))
     unfolding descriptor_reply_in and_then mapped cut_header
     described_back fs rest e =
         let there : drop 4 (laid (header seq SUCCESS a) ++ (laid fs ++ rest)) ≡ laid fs ++ rest =
@@ -96,7 +90,7 @@ module _
       where
         go :
             (o : Outcome D)
-            → mapped said (mapped (with (cut_header seq SUCCESS a)) o) ≡ mapped (λ c. (cut_header seq SUCCESS a, some c)) (mapped fields o)
+            → mapped said (mapped (with (cut_header seq SUCCESS a)) o) ≡ mapped (λ c. (cut_header seq SUCCESS a, Some c)) (mapped fields o)
         go (answer d) = ap answer (e (cut_header seq SUCCESS a) d)
         go (refusal n) = refl
 
@@ -109,13 +103,13 @@ module _
     error_back status rest other = rw (header_back, ne_eqb _ _ other)
 
 -- the server mask of a descriptor's fields, where there are any
-abbrev mask_from : Option NodeDescriptorConfig → OptionServerMask
-mask_from (some c) = mask.Some c.server_mask
-mask_from none = mask.None
+abbrev mask_from : Option NodeDescriptorConfig → Option ℕ
+mask_from (Some c) = Some c.server_mask
+mask_from None = None
 
-mask_from_lem : (d : OptionNodeDescriptor) → mask_from (some_node d) ≡ mask_of d
-mask_from_lem (node.Some d) = refl
-mask_from_lem node.None = refl
+mask_from_lem : (d : Option NodeDescriptor) → mask_from (some_node d) ≡ mask_of d
+mask_from_lem (Some d) = refl
+mask_from_lem None = refl
 
 -- what the reader of whole replies says, the other says of the mask
 mask_read :
@@ -140,37 +134,37 @@ mask_read reply h o e = go (node_reply_in reply) refl e
     go (refusal n) is said = absurd (refused said)
 
 module _ (seq : ℕ) (a : ShortAddress) where
-  node_reply_back : (n : NodeDescriptorConfig) → ReadsAs (node_desc_rsp seq a n) node_read (answer (cut_header seq SUCCESS a, some (cut_node n)))
+  node_reply_back : (n : NodeDescriptorConfig) → ReadsAs (node_desc_rsp seq a n) node_read (answer (cut_header seq SUCCESS a, Some (cut_node n)))
   unfolding node_desc_rsp node_reply_in mapped
   node_reply_back n =
       sent_back _ node_read _
       (λ rest. rw (described_back node_descriptor_in node_with node_without node_fields node_said seq a (node_descriptor_of n) rest (λ h d. refl), node_back n rest))
 
-  node_error_back : (status : ℕ) → Failing status → ReadsAs (descriptor_rsp_error seq status a) node_read (answer (cut_header seq status a, none))
+  node_error_back : (status : ℕ) → Failing status → ReadsAs (descriptor_rsp_error seq status a) node_read (answer (cut_header seq status a, None))
   unfolding descriptor_rsp_error node_reply_in
   node_error_back status other =
       sent_back _ node_read _ (λ rest. error_back node_descriptor_in node_with node_without node_fields node_said seq a status rest other)
 
   mask_back :
       (n : NodeDescriptorConfig)
-      → ReadsAs (node_desc_rsp seq a n) node_desc_rsp_in (answer (rsp_of (cut_header seq SUCCESS a) (mask.Some (n.server_mask % 65536))))
+      → ReadsAs (node_desc_rsp seq a n) node_desc_rsp_in (answer (rsp_of (cut_header seq SUCCESS a) (Some (n.server_mask % 65536))))
   unfolding cut_node
   mask_back n before after rest told w = mask_read (take told after ++ rest) _ _ (node_reply_back n before after rest told w)
 
-  mask_error_back : (status : ℕ) → Failing status → ReadsAs (descriptor_rsp_error seq status a) node_desc_rsp_in (answer (rsp_of (cut_header seq status a) mask.None))
+  mask_error_back : (status : ℕ) → Failing status → ReadsAs (descriptor_rsp_error seq status a) node_desc_rsp_in (answer (rsp_of (cut_header seq status a) None))
   mask_error_back status other before after rest told w =
       mask_read (take told after ++ rest) _ _ (node_error_back status other before after rest told w)
 
   power_reply_back :
       (p : PowerDescriptorConfig)
       → ReadsAs (power_desc_rsp seq a p) power_read
-      (cond (usable (p.available_power_sources % 16) (source_bits p.current_power_source)) (answer (cut_header seq SUCCESS a, some (cut_power p))) (refusal 3))
+      (cond (usable (p.available_power_sources % 16) (source_bits p.current_power_source)) (answer (cut_header seq SUCCESS a, Some (cut_power p))) (refusal 3))
   unfolding power_desc_rsp power_reply_in
   power_reply_back p =
       sent_back _ power_read _
       (λ rest. rw (described_back power_descriptor_in power_with power_without power_fields power_said seq a (power_descriptor_of p) rest (λ h d. refl), power_back p rest, mapped_granted))
 
-  power_error_back : (status : ℕ) → Failing status → ReadsAs (descriptor_rsp_error seq status a) power_read (answer (cut_header seq status a, none))
+  power_error_back : (status : ℕ) → Failing status → ReadsAs (descriptor_rsp_error seq status a) power_read (answer (cut_header seq status a, None))
   unfolding descriptor_rsp_error power_reply_in
   power_error_back status other =
       sent_back _ power_read _ (λ rest. error_back power_descriptor_in power_with power_without power_fields power_said seq a status rest other)
@@ -292,7 +286,7 @@ module _ (seq : ℕ) (a : ShortAddress) (e : Endpoint) (few : cluster_count e �
       let place : 5 + (6 + 1 + 2 * length e.input_clusters + 1) ≡ 11 + 1 + 2 * length e.input_clusters + 1 = omega arith in
       rw (own.places, rw append-nil at (simple_front e []), place, whole.first, whole.second, version_cut e.device_version)
 
-  described_reply_back : (rest : List ℕ) → simple_read (front ++ bytes ++ rest) ≡ answer (cut_header seq SUCCESS a, some (cut_endpoint e))
+  described_reply_back : (rest : List ℕ) → simple_read (front ++ bytes ++ rest) ≡ answer (cut_header seq SUCCESS a, Some (cut_endpoint e))
   unfolding simple_reply_in and_then simple_within mapped
   described_reply_back rest =
       let not_none : length bytes ≡ 0 → ⊥ = λ z. omega (arith, z, simple_length e) in
@@ -302,13 +296,13 @@ module _ (seq : ℕ) (a : ShortAddress) (e : Endpoint) (few : cluster_count e �
       go :
           (o : Outcome SimpleDescriptorFields)
           → mapped (λ d. simple_fields (front ++ bytes ++ rest) (shifted_fields 5 d)) o ≡ answer (cut_endpoint e)
-          → mapped (simple_said (front ++ bytes ++ rest)) (mapped (λ d. record { header = cut_header seq SUCCESS a; descriptor = simple.Some (shifted_fields 5 d) }) o)
-          ≡ answer (cut_header seq SUCCESS a, some (cut_endpoint e))
+          → mapped (simple_said (front ++ bytes ++ rest)) (mapped (λ d. record { header = cut_header seq SUCCESS a; descriptor = Some (shifted_fields 5 d) }) o)
+          ≡ answer (cut_header seq SUCCESS a, Some (cut_endpoint e))
       go (answer d) t = cc
       go (refusal n) t = absurd (refused t)
 
 module _ (seq : ℕ) (a : ShortAddress) where
-  empty_reply_back : (status : ℕ) (rest : List ℕ) → simple_read (laid (header seq status a ++ byte 0 ∷ []) ++ rest) ≡ answer (cut_header seq status a, none)
+  empty_reply_back : (status : ℕ) (rest : List ℕ) → simple_read (laid (header seq status a ++ byte 0 ∷ []) ++ rest) ≡ answer (cut_header seq status a, None)
   unfolding simple_reply_in and_then simple_within mapped listed
   empty_reply_back status rest = rw (list_places seq status a [] rest (omega arith))
 
@@ -316,7 +310,7 @@ module _ (seq : ℕ) (a : ShortAddress) where
   simple_one_back :
       (e : Endpoint) {bytes : List ℕ} (rest : List ℕ)
       → described_rsp seq a e ≡ answer bytes
-      → simple_read (bytes ++ rest) ≡ answer (cut_header seq SUCCESS a, some (cut_endpoint e))
+      → simple_read (bytes ++ rest) ≡ answer (cut_header seq SUCCESS a, Some (cut_endpoint e))
   unfolding described_rsp simple_written and_then
   simple_one_back e {bytes} rest came = go (leb (cluster_count e) 28) refl came
     where
@@ -325,7 +319,7 @@ module _ (seq : ℕ) (a : ShortAddress) where
           → leb (cluster_count e) 28 ≡ t
           → and_then (cond t (answer (laid (simple_descriptor_of e))) (refusal 4)) (λ d. answer (laid (header seq SUCCESS a ++ byte (length d) ∷ []) ++ d))
           ≡ answer bytes
-          → simple_read (bytes ++ rest) ≡ answer (cut_header seq SUCCESS a, some (cut_endpoint e))
+          → simple_read (bytes ++ rest) ≡ answer (cut_header seq SUCCESS a, Some (cut_endpoint e))
       go true t is =
           let few : cluster_count e ≤ 28 = leb-true (cluster_count e) 28 t in
           let whole : bytes ≡ front seq a e few ++ laid (simple_descriptor_of e) = cc in
@@ -343,13 +337,13 @@ module _ (seq : ℕ) (a : ShortAddress) where
       go :
           (o : Option EndpointDescriptor) (reply : List ℕ)
           → option (empty_rsp seq NOT_ACTIVE a) (λ e. described_rsp seq a (endpoint_of p e)) o ≡ answer reply
-          → simple_read (reply ++ rest) ≡ answer (option (cut_header seq NOT_ACTIVE a, none) (λ e. (cut_header seq SUCCESS a, some (cut_endpoint (endpoint_of p e)))) o)
-      go none reply is =
+          → simple_read (reply ++ rest) ≡ answer (option (cut_header seq NOT_ACTIVE a, None) (λ e. (cut_header seq SUCCESS a, Some (cut_endpoint (endpoint_of p e)))) o)
+      go None reply is =
           let whole : reply ≡ laid (header seq NOT_ACTIVE a ++ byte 0 ∷ []) = cc in
           rw whole (empty_reply_back NOT_ACTIVE rest)
-      go (some e) reply is = simple_one_back (endpoint_of p e) rest is
+      go (Some e) reply is = simple_one_back (endpoint_of p e) rest is
 
-  simple_error_back : (status : ℕ) → ReadsAs (empty_rsp seq status a) simple_read (answer (cut_header seq status a, none))
+  simple_error_back : (status : ℕ) → ReadsAs (empty_rsp seq status a) simple_read (answer (cut_header seq status a, None))
   unfolding empty_rsp
   simple_error_back status = sent_back _ simple_read _ (empty_reply_back status)
 
@@ -368,7 +362,7 @@ module _ (seq status : ℕ) (long : IeeeAddress) (a : ShortAddress) where
   unfolding addr_reply_in addr_header cut cut_addr
   addr_front rest = parses addr_widths _ (addr_header seq status long a) rest (one_layout.address seq status long a)
 
-  addr_error_back : Failing status → ReadsAs (addr_rsp_single seq status long a) addr_reply_in (answer (cut_addr seq status long a associated.None))
+  addr_error_back : Failing status → ReadsAs (addr_rsp_single seq status long a) addr_reply_in (answer (cut_addr seq status long a None))
   unfolding addr_rsp_single associated_in
   addr_error_back other = sent_back _ addr_reply_in _ (λ rest. rw (addr_front rest, ne_eqb _ _ other))
 
@@ -389,7 +383,7 @@ shorts_cut xs = map-map cut short xs
 module _ (seq : ℕ) (long : IeeeAddress) (a : ShortAddress) where
   -- twelve bytes and at most one more are single
   single_back :
-      (rest : List ℕ) → length rest ≤ 1 → addr_reply_in (laid (addr_header seq SUCCESS long a) ++ rest) ≡ answer (cut_addr seq SUCCESS long a associated.None)
+      (rest : List ℕ) → length rest ≤ 1 → addr_reply_in (laid (addr_header seq SUCCESS long a) ++ rest) ≡ answer (cut_addr seq SUCCESS long a None)
   unfolding associated_in
   single_back rest few =
       let under : length (laid (addr_header seq SUCCESS long a) ++ rest) < 14 = rw (length-append, addr_long) (omega arith) in
@@ -424,7 +418,7 @@ module _ (seq : ℕ) (long : IeeeAddress) (a : ShortAddress) where
         → addr_reply_in whole
         ≡ answer
         (cut_addr seq SUCCESS long a
-        (associated.Some (record { num_assoc_dev = n % 256; start_index = start % 256; devices = record { start = 14; count = length xs } })))
+        (Some (record { num_assoc_dev = n % 256; start_index = start % 256; devices = record { start = 14; count = length xs } })))
     unfolding associated_in fields_at
     extended_back few =
         let first : number_at 1 whole 12 ≡ n % 256 = cc added_there in
@@ -441,7 +435,7 @@ module _ (seq : ℕ) (long : IeeeAddress) (a : ShortAddress) where
 
   addresses_back :
       (extended : Bool)
-      → ReadsAs (addr_rsp seq long a extended) (λ reply. mapped bare (addr_reply_in reply)) (answer (cut_addr seq SUCCESS long a associated.None))
+      → ReadsAs (addr_rsp seq long a extended) (λ reply. mapped bare (addr_reply_in reply)) (answer (cut_addr seq SUCCESS long a None))
   unfolding addr_rsp addr_rsp_single addr_rsp_extended mapped cut_addr
   addresses_back false = sent_back _ (λ reply. mapped bare (addr_reply_in reply)) _ (λ rest. rw (addr_front seq SUCCESS long a rest))
   addresses_back true =
@@ -452,8 +446,8 @@ module _ (seq : ℕ) (long : IeeeAddress) (a : ShortAddress) where
       (start : ℕ) (xs : List ShortAddress)
       → ReadsAloneAs (addr_rsp_extended seq long a start xs) addr_read
       (answer (
-        cut_addr seq SUCCESS long a associated.None,
-        some (record { num_assoc_dev = length xs % 256; start_index = start % 256; devices = map (λ x. x.0 % 65536) (drop start xs) }),
+        cut_addr seq SUCCESS long a None,
+        Some (record { num_assoc_dev = length xs % 256; start_index = start % 256; devices = map (λ x. x.0 % 65536) (drop start xs) }),
       ))
   unfolding addr_rsp_extended mapped cut_addr
   children_back start xs before after rest told few w =

@@ -1,5 +1,6 @@
 -- What stands behind a reply is ignored, and lists that are read stand at their places in the whole reply. From what holds of fields
 -- that lie within bytes. Assumes nothing.
+use Rattle.std.specs.Prelude.{Ok}
 use Prim.Native.Nat.{ℕ, zero, suc, ◌+◌, ◌*◌, ◌≤◌}
 use native.Mathlib.Omega.{arith}
 use mathlib.Core.Path.{◌≡◌, refl, sym, ap}
@@ -19,15 +20,13 @@ use Rattle.zigbee_types.proofs.Fields.{number_at_drop}
 use Rattle.zigbee_types.proofs.Outcomes.{refused, held, answered}
 use Rattle.node_descriptor.specs.NodeDescriptor.{node_descriptor_in}
 use Rattle.node_power_descriptor.specs.PowerDescriptor.{power_widths, power_descriptor_in}
-use Rattle.simple_descriptor.specs.SimpleDescriptor.{simple_descriptor_in, simple_says, simple_fields}
+use Rattle.simple_descriptor.specs.SimpleDescriptor.{simple_descriptor_in, simple_fields}
+use Rattle.zigbee_types.specs.Answers.{says}
 use Rattle.simple_descriptor.specs.declared.SimpleDescriptorFields.{SimpleDescriptorFields}
-use Rattle.simple_descriptor.specs.declared.SimpleDescriptorRead.TheVariants as descriptor
 use Rattle.zdo_readers.specs.Readers.{header_widths, header_in, descriptor_reply_in, node_with, node_without, node_reply_in, power_with, power_without, power_reply_in, status_widths, status_reply_in}
 use Rattle.zdo_readers.specs.declared.readers.ReplyHeader.{ReplyHeader}
 use Rattle.zdo_list_readers.specs.ListReaders.{list_behind, list_reply_in, match_error_widths, match_reply_in_as, match_reply_in, shifted, shifted_fields, simple_within, simple_reply_in}
-use Rattle.zdo_list_readers.specs.Answers.{list_reply_says}
 use Rattle.zdo_list_readers.specs.declared.readers.ListReply.{ListReply}
-use Rattle.zdo_list_readers.specs.declared.readers.ListReplyRead.TheVariants as list
 use Rattle.zdo_list_readers.specs.declared.readers.MatchReply.{MatchReply}
 use Rattle.zdo_list_readers.specs.declared.readers.MatchReply.TheVariants.{Matched}
 use Rattle.zdo_list_readers.proofs.Listed.{list_long}
@@ -170,8 +169,8 @@ power_more = then_more _ _ (parsed_more power_widths _) (λ reply rest a b came 
 -- ---- lists
 
 list_whole : (reply : List ℕ) (r : ListReply) → list_reply_in reply ≡ answer r → behind 1 r.list ≤ length reply
-unfolding list_reply_says
-list_whole reply r e = list_long reply r (list.Reply r) (sym e) refl
+unfolding says
+list_whole reply r e = list_long reply r (Ok r) (sym e) refl
 
 list_more : IgnoresTrailing list_reply_in
 unfolding list_reply_in list_behind
@@ -215,9 +214,9 @@ simple_stands :
     (reply : List ℕ) (start len : ℕ) (d : SimpleDescriptorFields)
     → simple_descriptor_in (part start len reply) ≡ answer d
     → simple_fields reply (shifted_fields start d) ≡ simple_fields (part start len reply) d
-unfolding simple_says simple_fields shifted_fields
+unfolding says simple_fields shifted_fields
 simple_stands reply start len d e =
-    let (first, second) = lists_end (part start len reply) (descriptor.Descriptor d) (sym e) refl in
+    let (first, second) = lists_end (part start len reply) (Ok d) (sym e) refl in
     rw (entries_within start len reply 2 d.input_clusters first, entries_within start len reply 2 d.output_clusters second)
 
 -- ---- all of them

@@ -1,5 +1,6 @@
 -- The two readers of node replies agree: the server mask that one looks for alone is the one that the other's descriptor holds.
 -- Assumes nothing.
+use Rattle.std.specs.Prelude.{Option, Some, None}
 use Prim.Native.Nat.{ℕ, ◌≤◌}
 use native.Mathlib.Omega.{arith}
 use mathlib.Core.Path.{◌≡◌, refl}
@@ -19,8 +20,6 @@ use Rattle.node_descriptor.specs.NodeDescriptor.{node_widths, node_descriptor_in
 use Rattle.zdo_readers.specs.Readers.{header_widths, header_in, descriptor_reply_in, node_with, node_without, node_reply_in, server_mask_in, node_desc_rsp_in, stack_revision_of}
 use Rattle.zdo_readers.specs.declared.readers.ReplyHeader.{ReplyHeader}
 use Rattle.zdo_readers.specs.declared.readers.NodeReply.{NodeReply}
-use Rattle.zdo_readers.specs.declared.readers.OptionNodeDescriptor.{OptionNodeDescriptor}
-use Rattle.zdo_readers.specs.declared.readers.OptionNodeDescriptor.TheVariants as node
 use Rattle.demands.specs.TwoReaders.{mask_of, revision_of, rsp_of, in_brief, NodeReadersAgree, RevisionsAgree}
 
 module _ (reply : List ℕ) where
@@ -57,10 +56,10 @@ node_readers_agree reply r e =
     rw (le-leb _ _ long, brief reply h r (eqb h.status SUCCESS) (rw is at came))
 
 -- the revision of a descriptor is that of its mask
-revision_brief : (d : OptionNodeDescriptor) → stack_revision_of (mask_of d) ≡ revision_of d
+revision_brief : (d : Option NodeDescriptor) → stack_revision_of (mask_of d) ≡ revision_of d
 unfolding stack_revision_of
-revision_brief (node.Some d) = refl
-revision_brief node.None = refl
+revision_brief (Some d) = refl
+revision_brief None = refl
 
 pub revisions_agree : RevisionsAgree
 unfolding mapped in_brief

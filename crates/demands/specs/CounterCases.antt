@@ -1,7 +1,6 @@
 -- Document 01's counter-cases K1 to K11. What the definitions say stands on one side, and document 01's bytes and numbers, as
 -- literals, on the other.
-use Rattle.std.specs.Prelude.{ℕ, List, [], ◌∷◌, ◌++◌, map, length, take, replicate}
-use Rattle.std.proofs.Math.Option.{Option, none, some}
+use Rattle.std.specs.Prelude.{ℕ, List, [], ◌∷◌, ◌++◌, map, length, take, replicate, Option, Some, None}
 use Rattle.zigbee_types.specs.Outcome.{Outcome, answer, refusal, and_then, mapped, fitted, begun_length, begun}
 use Rattle.zigbee_types.specs.Layout.{laid}
 use Rattle.node_descriptor.specs.NodeDescriptor.{default_node, node_descriptor_of}
@@ -29,8 +28,8 @@ K1 =
 
 -- a stack revision, where there is one
 abbrev pub revisions : Option ℕ → List ℕ
-revisions (some r) = r ∷ []
-revisions none = []
+revisions (Some r) = r ∷ []
+revisions None = []
 
 -- K2: its stack revision
 unfoldable pub K2 : Case
@@ -87,7 +86,7 @@ K6 =
 unfoldable pub K7 : Case
 K7 = record { says = found (0x09 ∷ 0x34 ∷ 0x12 ∷ 0x04 ∷ 0x01 ∷ 0x01 ∷ 0x02 ∷ 0x04 ∷ 0x00 ∷ []) ∷ []; expected = answer (1 ∷ []) ∷ [] }
 
--- K8: profile 0xFFFF and no clusters find none
+-- K8: profile 0xFFFF and no clusters find None
 unfoldable pub K8 : Case
 K8 = record { says = found (0x09 ∷ 0x34 ∷ 0x12 ∷ 0xFF ∷ 0xFF ∷ 0x00 ∷ 0x00 ∷ []) ∷ []; expected = answer [] ∷ [] }
 

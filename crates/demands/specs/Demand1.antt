@@ -3,8 +3,7 @@
 -- the tables and the room ("Refusal numbers", "Payloads", "Replies"). A term of it stands in proofs/. (That each call ends is proved of
 -- every function with its contract. What the other public functions refuse, their contracts say.) No parser and no reply stands in the conditions; how many records match a request goes by the rule
 -- itself, `matches`.
-use Rattle.std.specs.Prelude.{ℕ, ◌+◌, ◌*◌, ◌≤◌, ◌≡◌, Bool, true, false, ◌||◌, ◌&&◌, not, cond, List, [], ◌∷◌, ◌++◌, eqb, ltb, length, replicate}
-use Rattle.std.proofs.Math.Option.{Option}
+use Rattle.std.specs.Prelude.{ℕ, ◌+◌, ◌*◌, ◌≤◌, ◌≡◌, Bool, true, false, ◌||◌, ◌&&◌, not, cond, List, [], ◌∷◌, ◌++◌, eqb, ltb, length, replicate, Option}
 use Rattle.zigbee_types.specs.Outcome.{Outcome, answer, refusal}
 use Rattle.zigbee_types.specs.Bytes.{number_at}
 use Rattle.zigbee_types.specs.Layout.{fields_at}

@@ -1,19 +1,17 @@
 -- Cases of device tables: matching, numbers that repeat, parts of pools, tables that are refused. What the definitions say stands on
 -- one side, and literals on the other (`Case`).
-use Rattle.std.specs.Prelude.{ℕ, List, [], ◌∷◌, ◌++◌, map, length, take, drop, replicate}
-use Rattle.std.proofs.Math.Option.{Option}
+use Rattle.std.specs.Prelude.{ℕ, List, [], ◌∷◌, ◌++◌, map, length, take, drop, replicate, Option, Some, None}
 use Rattle.zigbee_types.specs.Lists.{option}
 use Rattle.zigbee_types.specs.Bytes.{bit}
 use Rattle.zigbee_types.specs.Outcome.{Outcome, answer, refusal, mapped, begun_length, begun}
 use Rattle.zigbee_types.specs.Addresses.{short_of}
 use Rattle.zdo_requests.specs.declared.descriptor.MatchDescReq.{MatchDescReq}
 use Rattle.zdo_replies.specs.Replies.{list_rsp}
-use Rattle.zdo_device.specs.Tables.{Pools, pools, endpoint_record, endpoint_says, supports_endpoint, endpoint_clusters}
+use Rattle.zdo_device.specs.Tables.{Pools, pools, endpoint_record, supports_endpoint, endpoint_clusters}
 use Rattle.zdo_matching.specs.Matching.{matched_records, matching_endpoints}
 use Rattle.zdo_device_rsp.specs.TableReplies.{active_records, active_ep_rsp, simple_desc_rsp}
 use Rattle.zdo_device.specs.declared.descriptor.EndpointDescriptor.{EndpointDescriptor}
 use Rattle.zdo_device.specs.declared.descriptor.DeviceDescriptorConfig.{DeviceDescriptorConfig}
-use Rattle.zdo_device.specs.declared.descriptor.OptionEndpoint.TheVariants as optional
 use Rattle.zdo_device.specs.declared.descriptor.Side.TheVariants.{Input, Output}
 use Rattle.our_device.specs.OurDevice.{endpoint1, endpoint2, our_pools, our_device}
 use Rattle.demands.specs.Devices.{endpoint_at, device_of}
@@ -116,7 +114,7 @@ unfoldable pub Records : Case
 Records =
     record {
       says =
-          map (λ r. record_shown (endpoint_says r)) (optional.Some endpoint1 ∷ optional.None ∷ [])
+          map (λ r. record_shown (endpoint_says r)) (Some endpoint1 ∷ None ∷ [])
           ++ record_shown (endpoint_record (crowd 0 32) 9)
           ∷ record_shown (endpoint_record (crowd 0 33) 9)
           ∷ record_shown (endpoint_record (crowd 0 0xFFFF_FFFF_FFFF_FFFF) 9)

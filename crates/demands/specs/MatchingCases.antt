@@ -1,13 +1,12 @@
 -- Cases of matching: profiles, both lists, long lists, places in the payload, the buffer. What the definitions say stands on one
 -- side, and literals on the other (`Case`).
-use Rattle.std.specs.Prelude.{ℕ, List, [], ◌∷◌, ◌++◌, map}
+use Rattle.std.specs.Prelude.{ℕ, List, [], ◌∷◌, ◌++◌, map, Ok, Err}
 use Rattle.zigbee_types.specs.Outcome.{Outcome, answer, refusal, mapped, begun_length, begun}
 use Rattle.zigbee_types.specs.declared.Refusal.TheVariants.{BadTables, Malformed}
 use Rattle.zdo_device.specs.declared.descriptor.EndpointDescriptor.{EndpointDescriptor}
 use Rattle.zdo_device.specs.declared.descriptor.DeviceDescriptorConfig.{DeviceDescriptorConfig}
 use Rattle.zdo_matching.specs.Matching.{matching_endpoints}
 use Rattle.zdo_matching.specs.Answers.{matching_says}
-use Rattle.zdo_matching.specs.declared.descriptor.Matching.TheVariants.{Matched, Refused}
 use Rattle.our_device.specs.OurDevice.{our_pools, our_device}
 use Rattle.demands.specs.Devices.{endpoint_at, device_of}
 use Rattle.demands.specs.Cases.{Case, found}
@@ -19,7 +18,7 @@ MatchingAnswers =
     record {
       says =
           map (λ m. mapped (λ n. n ∷ []) (matching_says m))
-          (Matched (record { written = 0 }) ∷ Matched (record { written = 2 }) ∷ Refused BadTables ∷ Refused Malformed ∷ []);
+          (Ok (record { written = 0 }) ∷ Ok (record { written = 2 }) ∷ Err BadTables ∷ Err Malformed ∷ []);
       expected = answer (0 ∷ []) ∷ answer (2 ∷ []) ∷ refusal 1 ∷ refusal 3 ∷ [];
     }
 

@@ -1,6 +1,6 @@
 -- Cases of the readers, and of numbers that have names. What the definitions say stands on one side, and
 -- literals on the other (`Case`); those of flags are the Rust's.
-use Rattle.std.specs.Prelude.{ℕ, List, [], ◌∷◌, ◌++◌, map, take, drop, replicate}
+use Rattle.std.specs.Prelude.{ℕ, List, [], ◌∷◌, ◌++◌, map, take, drop, replicate, Option, Some, None}
 use Rattle.zigbee_types.specs.Refusals.{refusal_number}
 use Rattle.zigbee_types.specs.declared.Refusal.TheVariants.{BadTables, UnknownCluster, Malformed, TooManyClusters, ShortBuffer}
 use Rattle.zigbee_types.specs.Bytes.{bit, bit_at}
@@ -29,17 +29,7 @@ use Rattle.zdo_replies.specs.declared.descriptor.BindStatus.TheVariants as bind
 use Rattle.zdo_replies.specs.declared.descriptor.DiscoveryError.TheVariants as error
 use Rattle.zdo_replies.specs.declared.management.NlmeLeaveStatus.TheVariants as leaving
 use Rattle.zdo_readers.specs.Readers.{node_reply_in, power_reply_in, node_desc_rsp_in, addr_reply_in, status_reply_in}
-use Rattle.zdo_readers.specs.declared.descriptor.OptionServerMask.{OptionServerMask}
-use Rattle.zdo_readers.specs.declared.descriptor.OptionServerMask.TheVariants as mask
-use Rattle.zdo_readers.specs.declared.readers.OptionNodeDescriptor.{OptionNodeDescriptor}
-use Rattle.zdo_readers.specs.declared.readers.OptionNodeDescriptor.TheVariants as node
-use Rattle.zdo_readers.specs.declared.readers.OptionPowerDescriptor.{OptionPowerDescriptor}
-use Rattle.zdo_readers.specs.declared.readers.OptionPowerDescriptor.TheVariants as power
-use Rattle.zdo_readers.specs.declared.readers.OptionAssociated.{OptionAssociated}
-use Rattle.zdo_readers.specs.declared.readers.OptionAssociated.TheVariants as associated
 use Rattle.zdo_list_readers.specs.ListReaders.{list_reply_in, match_reply_in, simple_reply_in}
-use Rattle.zdo_list_readers.specs.declared.readers.OptionSimpleDescriptor.{OptionSimpleDescriptor}
-use Rattle.zdo_list_readers.specs.declared.readers.OptionSimpleDescriptor.TheVariants as simple
 use Rattle.zdo_list_readers.specs.declared.readers.MatchReply.{MatchReply}
 use Rattle.zdo_list_readers.specs.declared.readers.MatchReply.TheVariants.{Matched, Failed}
 use Rattle.zdo_dispatcher.specs.Answers.{leaving}
@@ -50,19 +40,19 @@ abbrev pub node_reply : List ℕ
 node_reply = 0x07 ∷ 0x00 ∷ 0x34 ∷ 0x12 ∷ 0x02 ∷ 0x40 ∷ 0x80 ∷ 0xCD ∷ 0xAB ∷ 0x52 ∷ 0x80 ∷ 0x00 ∷ 0x00 ∷ 0x2C ∷ 0x80 ∷ 0x00 ∷ 0x00 ∷ []
 
 -- the manufacturer of a node descriptor, where there is one
-abbrev pub maker : OptionNodeDescriptor → List ℕ
-maker (node.Some d) = d.manufacturer_code ∷ []
-maker node.None = []
+abbrev pub maker : Option NodeDescriptor → List ℕ
+maker (Some d) = d.manufacturer_code ∷ []
+maker None = []
 
 -- the bytes of a power descriptor, where there is one
-abbrev pub power_bytes : OptionPowerDescriptor → List ℕ
-power_bytes (power.Some d) = d.«byte0» ∷ d.«byte1» ∷ []
-power_bytes power.None = []
+abbrev pub power_bytes : Option NodePowerDescriptor → List ℕ
+power_bytes (Some d) = d.«byte0» ∷ d.«byte1» ∷ []
+power_bytes None = []
 
 -- a server mask, where there is one
-abbrev pub some_mask : OptionServerMask → List ℕ
-some_mask (mask.Some m) = m ∷ []
-some_mask mask.None = []
+abbrev pub some_mask : Option ℕ → List ℕ
+some_mask (Some m) = m ∷ []
+some_mask None = []
 
 -- a node reply and 16 bytes of it; one of another status; its mask at 14 bytes, at 16 and at 13, and with another status; a power
 -- reply, and one of another status
@@ -127,9 +117,9 @@ ReadLists =
     }
 
 -- the fields of a simple descriptor, where there is one
-abbrev pub simple_numbers : OptionSimpleDescriptor → List ℕ
-simple_numbers simple.None = []
-simple_numbers (simple.Some d) =
+abbrev pub simple_numbers : Option SimpleDescriptorFields → List ℕ
+simple_numbers None = []
+simple_numbers (Some d) =
     d.endpoint ∷ d.profile_id ∷ d.device_id ∷ d.device_version ∷ places d.input_clusters ++ places d.output_clusters
 
 -- a simple descriptor of one input, 0x0402, with version 0x11
@@ -142,9 +132,9 @@ unfoldable pub ReadSimple : Case
 ReadSimple =
     record {
       says =
-          mapped (λ d. simple_numbers (simple.Some d)) (simple_descriptor_in simple_bytes)
-          ∷ mapped (λ d. simple_numbers (simple.Some d)) (simple_descriptor_in (0x01 ∷ 0x04 ∷ 0x01 ∷ 0x02 ∷ 0x03 ∷ 0x01 ∷ 0x00 ∷ 0x01 ∷ 0x19 ∷ 0x00 ∷ []))
-          ∷ mapped (λ d. simple_numbers (simple.Some d)) (simple_descriptor_in (0x01 ∷ 0x04 ∷ 0x01 ∷ 0x02 ∷ 0x03 ∷ 0x01 ∷ 0x00 ∷ 0x01 ∷ 0x19 ∷ []))
+          mapped (λ d. simple_numbers (Some d)) (simple_descriptor_in simple_bytes)
+          ∷ mapped (λ d. simple_numbers (Some d)) (simple_descriptor_in (0x01 ∷ 0x04 ∷ 0x01 ∷ 0x02 ∷ 0x03 ∷ 0x01 ∷ 0x00 ∷ 0x01 ∷ 0x19 ∷ 0x00 ∷ []))
+          ∷ mapped (λ d. simple_numbers (Some d)) (simple_descriptor_in (0x01 ∷ 0x04 ∷ 0x01 ∷ 0x02 ∷ 0x03 ∷ 0x01 ∷ 0x00 ∷ 0x01 ∷ 0x19 ∷ []))
           ∷ mapped (λ r. simple_numbers r.descriptor) (simple_reply_in (0x07 ∷ 0x83 ∷ 0x34 ∷ 0x12 ∷ 0x0B ∷ simple_bytes ++ 0x00 ∷ []))
           ∷ mapped (λ r. simple_numbers r.descriptor) (simple_reply_in (0x07 ∷ 0x00 ∷ 0x34 ∷ 0x12 ∷ 0x09 ∷ simple_bytes))
           ∷ mapped (λ r. simple_numbers r.descriptor) (simple_reply_in (0x07 ∷ 0x00 ∷ 0x34 ∷ 0x12 ∷ 0x0B ∷ simple_bytes))
@@ -162,9 +152,9 @@ ReadSimple =
     }
 
 -- what an extended address reply adds, where it does
-abbrev pub extension : OptionAssociated → List ℕ
-extension (associated.Some e) = e.num_assoc_dev ∷ e.start_index ∷ places e.devices
-extension associated.None = []
+abbrev pub extension : Option Associated → List ℕ
+extension (Some e) = e.num_assoc_dev ∷ e.start_index ∷ places e.devices
+extension None = []
 
 -- what is read of an address reply with so much behind its twelve bytes
 abbrev pub address : ℕ → List ℕ → Outcome (List ℕ)

@@ -1,22 +1,21 @@
 -- Which replies the readers refuse, in numbers of bytes (document 01, "Reply readers"), as statements. A term of it stands in proofs/.
-use Rattle.std.specs.Prelude.{ℕ, ◌+◌, ◌*◌, ◌%◌, ◌≡◌, Bool, ◌||◌, ◌&&◌, not, cond, List, eqb, ltb, length, get_or}
-use Rattle.std.proofs.Math.Option.{Option, none, some}
+use Rattle.std.specs.Prelude.{ℕ, ◌+◌, ◌*◌, ◌%◌, ◌≡◌, Bool, ◌||◌, ◌&&◌, not, cond, List, eqb, ltb, length, get_or, Option, Some, None}
 use Rattle.zigbee_types.specs.Outcome.{Outcome, answer, refusal}
 use Rattle.zigbee_types.specs.Bytes.{bit_at}
 use Rattle.zigbee_types.specs.Statuses.{SUCCESS}
 use Rattle.zdo_readers.specs.Readers.{header_in, node_reply_in, power_reply_in, node_desc_rsp_in, addr_reply_in, status_reply_in}
 use Rattle.zdo_list_readers.specs.ListReaders.{list_reply_in, match_reply_in, simple_reply_in}
 
--- the number of a refusal; an answer has none
+-- the number of a refusal; an answer has None
 unfoldable pub refusal_of : {A : Type 0} → Outcome A → Option ℕ
-refusal_of (answer a) = none
-refusal_of (refusal n) = some n
+refusal_of (answer a) = None
+refusal_of (refusal n) = Some n
 
 -- refusal 3 exactly if a test holds
 abbrev pub malformed_if : Bool → Option ℕ
-malformed_if b = cond b (some 3) none
+malformed_if b = cond b (Some 3) None
 
--- byte i of a reply or a payload, counted from 0; 0 where there is none
+-- byte i of a reply or a payload, counted from 0; 0 where there is None
 abbrev pub byte_of : List ℕ → ℕ → ℕ
 byte_of reply i = get_or reply i 0
 
@@ -37,7 +36,7 @@ source_stands reply =
 
 -- does a simple descriptor from byte 5 on need more than the bytes that its length, byte 4, gives it: 8, and two for each cluster of
 -- its two lists? They are counted at byte 6 of the descriptor and behind the first list. (Where a count stands past that length, the
--- descriptor needs more already by what comes before.) Length 0 means none.
+-- descriptor needs more already by what comes before.) Length 0 means None.
 abbrev pub runs_over : List ℕ → Bool
 runs_over reply =
     let len = byte_of reply 4 in

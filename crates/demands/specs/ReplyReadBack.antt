@@ -1,7 +1,6 @@
 -- Demand 2, its last sentence: a reply that was written is read, under document 01's premises, as the fields that its writer was
 -- given, cut to their widths. As statements, one for each writer and its reader; a term of each stands in proofs/.
-use Rattle.std.specs.Prelude.{ℕ, ◌%◌, ◌^◌, ◌≤◌, ◌≡◌, Bool, true, false, cond, List, [], ◌++◌, map, length, take, drop}
-use Rattle.std.proofs.Math.Option.{Option, none, some}
+use Rattle.std.specs.Prelude.{ℕ, ◌%◌, ◌^◌, ◌≤◌, ◌≡◌, Bool, true, false, cond, List, [], ◌++◌, map, length, take, drop, Option, Some, None}
 use Rattle.zigbee_types.specs.Outcome.{Outcome, answer, refusal, mapped, Wrote}
 use Rattle.zigbee_types.specs.Layout.{entries_at}
 use Rattle.zigbee_types.specs.Lists.{option}
@@ -20,25 +19,16 @@ use Rattle.zdo_device.specs.Tables.{Pools, used, endpoint_record, endpoint_of}
 use Rattle.zdo_device.specs.declared.descriptor.DeviceDescriptorConfig.{DeviceDescriptorConfig}
 use Rattle.zdo_device_rsp.specs.TableReplies.{numbers, active_ep_rsp, simple_desc_rsp}
 use Rattle.zdo_readers.specs.Readers.{node_reply_in, node_desc_rsp_in, power_reply_in, addr_reply_in, status_reply_in}
-use Rattle.zdo_readers.specs.declared.descriptor.OptionServerMask.TheVariants as mask
 use Rattle.zdo_readers.specs.declared.readers.ReplyHeader.{ReplyHeader}
 use Rattle.zdo_readers.specs.declared.readers.NodeReply.{NodeReply}
-use Rattle.zdo_readers.specs.declared.readers.OptionNodeDescriptor.{OptionNodeDescriptor}
-use Rattle.zdo_readers.specs.declared.readers.OptionNodeDescriptor.TheVariants as node
 use Rattle.zdo_readers.specs.declared.readers.PowerReply.{PowerReply}
-use Rattle.zdo_readers.specs.declared.readers.OptionPowerDescriptor.{OptionPowerDescriptor}
-use Rattle.zdo_readers.specs.declared.readers.OptionPowerDescriptor.TheVariants as power
 use Rattle.zdo_readers.specs.declared.readers.AddrReply.{AddrReply}
-use Rattle.zdo_readers.specs.declared.readers.OptionAssociated.{OptionAssociated}
-use Rattle.zdo_readers.specs.declared.readers.OptionAssociated.TheVariants as associated
 use Rattle.zdo_readers.specs.declared.readers.StatusReply.{StatusReply}
 use Rattle.zdo_list_readers.specs.ListReaders.{list_reply_in, match_reply_in, simple_reply_in}
 use Rattle.zdo_list_readers.specs.declared.readers.ListReply.{ListReply}
 use Rattle.zdo_list_readers.specs.declared.readers.MatchReply.{MatchReply}
 use Rattle.zdo_list_readers.specs.declared.readers.MatchReply.TheVariants as match
 use Rattle.zdo_list_readers.specs.declared.readers.SimpleReply.{SimpleReply}
-use Rattle.zdo_list_readers.specs.declared.readers.OptionSimpleDescriptor.{OptionSimpleDescriptor}
-use Rattle.zdo_list_readers.specs.declared.readers.OptionSimpleDescriptor.TheVariants as simple
 use Rattle.demands.specs.ReadBack.{cut_node, cut_power, cut_endpoint}
 use Rattle.demands.specs.TwoReaders.{rsp_of}
 
@@ -64,9 +54,9 @@ cut_header seq status a = record { seq = seq % 256; status = status % 256; nwk_a
 -- ---- what a reply that was read says
 
 -- the fields of a node descriptor, where there is one
-abbrev pub some_node : OptionNodeDescriptor → Option NodeDescriptorConfig
-some_node (node.Some d) = some (node_fields d)
-some_node node.None = none
+abbrev pub some_node : Option NodeDescriptor → Option NodeDescriptorConfig
+some_node (Some d) = Some (node_fields d)
+some_node None = None
 
 -- a node reply: its header, and the fields of its descriptor
 abbrev pub node_said : NodeReply → ReplyHeader × Option NodeDescriptorConfig
@@ -76,9 +66,9 @@ abbrev pub node_read : List ℕ → Outcome (ReplyHeader × Option NodeDescripto
 node_read reply = mapped node_said (node_reply_in reply)
 
 -- the fields of a power descriptor, where there is one
-abbrev pub some_power : OptionPowerDescriptor → Option PowerDescriptorConfig
-some_power (power.Some d) = some (power_fields d)
-some_power power.None = none
+abbrev pub some_power : Option NodePowerDescriptor → Option PowerDescriptorConfig
+some_power (Some d) = Some (power_fields d)
+some_power None = None
 
 -- a power reply: its header, and the fields of its descriptor
 abbrev pub power_said : PowerReply → ReplyHeader × Option PowerDescriptorConfig
@@ -107,9 +97,9 @@ abbrev pub match_read : List ℕ → Outcome MatchSaid
 match_read reply = mapped (match_said reply) (match_reply_in reply)
 
 -- the fields of a simple descriptor, where there is one, its lists taken from the places that the reader gives
-abbrev pub some_simple : List ℕ → OptionSimpleDescriptor → Option Endpoint
-some_simple reply (simple.Some d) = some (simple_fields reply d)
-some_simple reply simple.None = none
+abbrev pub some_simple : List ℕ → Option SimpleDescriptorFields → Option Endpoint
+some_simple reply (Some d) = Some (simple_fields reply d)
+some_simple reply None = None
 
 -- a simple reply: its header, and the fields of its descriptor
 abbrev pub simple_said : List ℕ → SimpleReply → ReplyHeader × Option Endpoint
@@ -124,14 +114,14 @@ pub record DevicesSaid : Type 0 where
   pub start_index : ℕ
   pub devices : List ℕ
 
-abbrev pub some_devices : List ℕ → OptionAssociated → Option DevicesSaid
-some_devices reply (associated.Some e) =
-    some (record { num_assoc_dev = e.num_assoc_dev; start_index = e.start_index; devices = entries_at 2 reply e.devices })
-some_devices reply associated.None = none
+abbrev pub some_devices : List ℕ → Option Associated → Option DevicesSaid
+some_devices reply (Some e) =
+    Some (record { num_assoc_dev = e.num_assoc_dev; start_index = e.start_index; devices = entries_at 2 reply e.devices })
+some_devices reply None = None
 
 -- an address reply without what it adds
 abbrev pub bare : AddrReply → AddrReply
-bare r = record { seq = r.seq; status = r.status; ieee_addr = r.ieee_addr; nwk_addr = r.nwk_addr; associated = associated.None }
+bare r = record { seq = r.seq; status = r.status; ieee_addr = r.ieee_addr; nwk_addr = r.nwk_addr; associated = None }
 
 -- an address reply: its fields, and what it adds
 abbrev pub addr_said : List ℕ → AddrReply → AddrReply × Option DevicesSaid
@@ -143,7 +133,7 @@ addr_read reply = mapped (addr_said reply) (addr_reply_in reply)
 -- ---- what is to be read
 
 -- an address reply's fields, cut, with what an extended one adds
-unfoldable pub cut_addr : ℕ → ℕ → IeeeAddress → ShortAddress → OptionAssociated → AddrReply
+unfoldable pub cut_addr : ℕ → ℕ → IeeeAddress → ShortAddress → Option Associated → AddrReply
 cut_addr seq status long a o =
     record {
       seq = seq % 256;
@@ -154,14 +144,14 @@ cut_addr seq status long a o =
     }
 
 -- of a device without children an extended reply has two zeros, and behind them no list
-unfoldable pub no_devices : Bool → OptionAssociated
-no_devices true = associated.Some (record { num_assoc_dev = 0; start_index = 0; devices = record { start = 14; count = 0 } })
-no_devices false = associated.None
+unfoldable pub no_devices : Bool → Option Associated
+no_devices true = Some (record { num_assoc_dev = 0; start_index = 0; devices = record { start = 14; count = 0 } })
+no_devices false = None
 
--- of a simple reply: the descriptor of the first record with the number; where there is none, NOT_ACTIVE
+-- of a simple reply: the descriptor of the first record with the number; where there is None, NOT_ACTIVE
 unfoldable pub cut_simple : ℕ → ShortAddress → Pools → DeviceDescriptorConfig → ℕ → ReplyHeader × Option Endpoint
 cut_simple seq a p d n =
-    option (cut_header seq NOT_ACTIVE a, none) (λ e. (cut_header seq SUCCESS a, some (cut_endpoint (endpoint_of p e)))) (endpoint_record d n)
+    option (cut_header seq NOT_ACTIVE a, None) (λ e. (cut_header seq SUCCESS a, Some (cut_endpoint (endpoint_of p e)))) (endpoint_record d n)
 
 -- ---- the writers
 
@@ -171,22 +161,22 @@ cut_simple seq a p d n =
 -- goes on into them, so these are read with at most one; the addresses are read whatever stands behind.
 pub record RepliesReadBack : Type 0 where
   -- `node_desc_rsp`
-  pub node : (seq : ℕ) (a : ShortAddress) (n : NodeDescriptorConfig) → ReadsAs (node_desc_rsp seq a n) node_read (answer (cut_header seq SUCCESS a, some (cut_node n)))
+  pub node : (seq : ℕ) (a : ShortAddress) (n : NodeDescriptorConfig) → ReadsAs (node_desc_rsp seq a n) node_read (answer (cut_header seq SUCCESS a, Some (cut_node n)))
   -- `descriptor_rsp_error`
-  pub node_error : (seq status : ℕ) (a : ShortAddress) → Failing status → ReadsAs (descriptor_rsp_error seq status a) node_read (answer (cut_header seq status a, none))
+  pub node_error : (seq status : ℕ) (a : ShortAddress) → Failing status → ReadsAs (descriptor_rsp_error seq status a) node_read (answer (cut_header seq status a, None))
   -- `node_desc_rsp`, by `parse_node_desc_rsp`
   pub server_mask_of :
       (seq : ℕ) (a : ShortAddress) (n : NodeDescriptorConfig)
-      → ReadsAs (node_desc_rsp seq a n) node_desc_rsp_in (answer (rsp_of (cut_header seq SUCCESS a) (mask.Some (n.server_mask % 65536))))
+      → ReadsAs (node_desc_rsp seq a n) node_desc_rsp_in (answer (rsp_of (cut_header seq SUCCESS a) (Some (n.server_mask % 65536))))
   -- `descriptor_rsp_error`, by `parse_node_desc_rsp`
-  pub server_mask_error : (seq status : ℕ) (a : ShortAddress) → Failing status → ReadsAs (descriptor_rsp_error seq status a) node_desc_rsp_in (answer (rsp_of (cut_header seq status a) mask.None))
+  pub server_mask_error : (seq status : ℕ) (a : ShortAddress) → Failing status → ReadsAs (descriptor_rsp_error seq status a) node_desc_rsp_in (answer (rsp_of (cut_header seq status a) None))
   -- `power_desc_rsp`
   pub power :
       (seq : ℕ) (a : ShortAddress) (p : PowerDescriptorConfig)
       → ReadsAs (power_desc_rsp seq a p) power_read
-      (cond (usable (p.available_power_sources % 16) (source_bits p.current_power_source)) (answer (cut_header seq SUCCESS a, some (cut_power p))) (refusal 3))
+      (cond (usable (p.available_power_sources % 16) (source_bits p.current_power_source)) (answer (cut_header seq SUCCESS a, Some (cut_power p))) (refusal 3))
   -- `descriptor_rsp_error`
-  pub power_error : (seq status : ℕ) (a : ShortAddress) → Failing status → ReadsAs (descriptor_rsp_error seq status a) power_read (answer (cut_header seq status a, none))
+  pub power_error : (seq status : ℕ) (a : ShortAddress) → Failing status → ReadsAs (descriptor_rsp_error seq status a) power_read (answer (cut_header seq status a, None))
   -- `active_ep_rsp`
   pub active :
       (seq : ℕ) (a : ShortAddress) (d : DeviceDescriptorConfig)
@@ -205,7 +195,7 @@ pub record RepliesReadBack : Type 0 where
       (seq : ℕ) (a : ShortAddress) (p : Pools) (d : DeviceDescriptorConfig) (n : ℕ)
       → ReadsAs (simple_desc_rsp seq a p d n) simple_read (answer (cut_simple seq a p d n))
   -- `simple_desc_rsp_error`
-  pub simple_error : (seq status : ℕ) (a : ShortAddress) → ReadsAs (empty_rsp seq status a) simple_read (answer (cut_header seq status a, none))
+  pub simple_error : (seq status : ℕ) (a : ShortAddress) → ReadsAs (empty_rsp seq status a) simple_read (answer (cut_header seq status a, None))
   -- `addr_rsp`
   pub address :
       (seq : ℕ) (long : IeeeAddress) (a : ShortAddress) (extended : Bool)
@@ -213,19 +203,19 @@ pub record RepliesReadBack : Type 0 where
   -- `addr_rsp`, whatever stands behind
   pub addresses :
       (seq : ℕ) (long : IeeeAddress) (a : ShortAddress) (extended : Bool)
-      → ReadsAs (addr_rsp seq long a extended) (λ reply. mapped bare (addr_reply_in reply)) (answer (cut_addr seq SUCCESS long a associated.None))
+      → ReadsAs (addr_rsp seq long a extended) (λ reply. mapped bare (addr_reply_in reply)) (answer (cut_addr seq SUCCESS long a None))
   -- an extended reply with children, which document 02 writes
   pub children :
       (seq : ℕ) (long : IeeeAddress) (a : ShortAddress) (start : ℕ) (xs : List ShortAddress)
       → ReadsAloneAs (addr_rsp_extended seq long a start xs) addr_read
       (answer (
-        cut_addr seq SUCCESS long a associated.None,
-        some (record { num_assoc_dev = length xs % 256; start_index = start % 256; devices = map (λ x. x.0 % 65536) (drop start xs) }),
+        cut_addr seq SUCCESS long a None,
+        Some (record { num_assoc_dev = length xs % 256; start_index = start % 256; devices = map (λ x. x.0 % 65536) (drop start xs) }),
       ))
   -- `addr_rsp_error`
   pub address_error :
       (seq status : ℕ) (long : IeeeAddress) (a : ShortAddress)
       → Failing status
-      → ReadsAs (addr_rsp_single seq status long a) addr_reply_in (answer (cut_addr seq status long a associated.None))
+      → ReadsAs (addr_rsp_single seq status long a) addr_reply_in (answer (cut_addr seq status long a None))
   -- `bind_rsp` and `mgmt_leave_rsp`
   pub status : (seq status : ℕ) → ReadsAs (status_rsp seq status) status_reply_in (answer (record { seq = seq % 256; status = status % 256 }))

@@ -1,7 +1,7 @@
 -- Cases of the requests, from bytes to fields: the shortest payload that suffices, one byte less, nothing, and bytes behind the
 -- fields. Bytes of different fields differ, so that order, width and place show. What the definitions say stands on one side, and
 -- literals on the other (`Case`).
-use Rattle.std.specs.Prelude.{ℕ, List, [], ◌∷◌, ◌++◌, map, take, replicate}
+use Rattle.std.specs.Prelude.{ℕ, List, [], ◌∷◌, ◌++◌, map, take, replicate, Option, Some, None}
 use Rattle.zigbee_types.specs.Bytes.{bit}
 use Rattle.zigbee_types.specs.Outcome.{Outcome, answer, refusal, mapped}
 use Rattle.aps_binding.specs.Entry.{key}
@@ -11,8 +11,6 @@ use Rattle.zdo_requests.specs.declared.descriptor.BindReq.{BindReq}
 use Rattle.zdo_requests.specs.declared.descriptor.BindReqDestination.{BindReqDestination}
 use Rattle.zdo_requests.specs.declared.descriptor.BindReqDestination.TheVariants.{Group, Device}
 use Rattle.zdo_requests.specs.declared.descriptor.MgmtLeaveReq.{MgmtLeaveReq}
-use Rattle.zdo_requests.specs.declared.descriptor.OptionIeeeAddress.{OptionIeeeAddress}
-use Rattle.zdo_requests.specs.declared.descriptor.OptionIeeeAddress.TheVariants as optional
 use Rattle.demands.specs.Cases.{Case, bind_a}
 
 -- what a parser reads of the first bytes of a payload, for each of these numbers of bytes
@@ -192,9 +190,9 @@ RequestedEntries =
 -- ---- leave
 
 -- the address, where there is one
-abbrev pub some_address : OptionIeeeAddress → List ℕ
-some_address (optional.Some a) = a.0 ∷ []
-some_address optional.None = []
+abbrev pub some_address : Option IeeeAddress → List ℕ
+some_address (Some a) = a.0 ∷ []
+some_address None = []
 
 -- seq, children, rejoin, and the address, where there is one
 abbrev pub leave_shown : MgmtLeaveReq → List ℕ

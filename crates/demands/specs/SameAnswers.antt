@@ -1,18 +1,17 @@
 -- "The same answers over a lent run of endpoint records" (document 01, "Device tables and sizes"), as a statement: a function over a
 -- lent run answers, and leaves in the buffer, what its form by value does over a device that holds the run; refusals too. The outcomes
 -- are those of the contracts. A term of it stands in proofs/.
-use Rattle.std.specs.Prelude.{ℕ, ◌≤◌, ◌≡◌, List, ◌++◌, length, take}
+use Rattle.std.specs.Prelude.{ℕ, ◌≤◌, ◌≡◌, List, ◌++◌, length, take, Result}
+use Rattle.zigbee_types.specs.declared.Refusal.{Refusal}
 use Rattle.zigbee_types.specs.Outcome.{Wrote, Begun}
-use Rattle.zigbee_types.specs.Answers.{written_says}
+use Rattle.zigbee_types.specs.Answers.{says}
 use Rattle.zigbee_types.specs.declared.ShortAddress.{ShortAddress}
-use Rattle.zigbee_types.specs.declared.Written.{Written}
 use Rattle.zdo_requests.specs.declared.descriptor.MatchDescReq.{MatchDescReq}
 use Rattle.zdo_device.specs.Tables.{Pools, used, good_records, good_device}
 use Rattle.zdo_device.specs.declared.descriptor.EndpointDescriptor.{EndpointDescriptor}
 use Rattle.zdo_device.specs.declared.descriptor.DeviceDescriptorConfig.{DeviceDescriptorConfig}
 use Rattle.zdo_matching.specs.Matching.{matched_records, matching_endpoints}
 use Rattle.zdo_matching.specs.Answers.{matching_says}
-use Rattle.zdo_matching.specs.declared.descriptor.Matching.{Matching}
 use Rattle.zdo_device_rsp.specs.TableReplies.{active_records, active_ep_rsp}
 
 -- a device holds a run: its count says how many records that has, and those in use are the run, or its first 32
@@ -37,17 +36,17 @@ pub record SameAnswers : Type 0 where
       → active_records seq address run ≡ active_ep_rsp seq address d
   -- so, of any buffer, the two forms of matching give one answer and leave one buffer
   pub matching :
-      (d : DeviceDescriptorConfig) (run : List EndpointDescriptor) (p : Pools) (q : MatchDescReq) (payload before : List ℕ) (r s : Matching) (after later : List ℕ)
+      (d : DeviceDescriptorConfig) (run : List EndpointDescriptor) (p : Pools) (q : MatchDescReq) (payload before : List ℕ) (r s : Result Matched Refusal) (after later : List ℕ)
       → Holds d run
       → Begun (matched_records p run q payload) before (matching_says r) after
       → Begun (matching_endpoints p d q payload) before (matching_says s) later
       → (r ≡ s) × (after ≡ later)
   -- and so do those of the active list
   pub active :
-      (d : DeviceDescriptorConfig) (run : List EndpointDescriptor) (seq : ℕ) (address : ShortAddress) (before : List ℕ) (r s : Written) (after later : List ℕ)
+      (d : DeviceDescriptorConfig) (run : List EndpointDescriptor) (seq : ℕ) (address : ShortAddress) (before : List ℕ) (r s : Result ℕ Refusal) (after later : List ℕ)
       → Holds d run
-      → Wrote (active_records seq address run) before (written_says r) after
-      → Wrote (active_ep_rsp seq address d) before (written_says s) later
+      → Wrote (active_records seq address run) before (says r) after
+      → Wrote (active_ep_rsp seq address d) before (says s) later
       → (r ≡ s) × (after ≡ later)
   -- each run is held by some device, whose array has 32 places; and a device whose count is at most 32 holds its records in use
   pub each :

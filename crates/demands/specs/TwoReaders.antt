@@ -1,31 +1,26 @@
 -- Two readers of one format: `parse_node_desc_rsp`, which looks for the server mask alone, and the reader of whole node replies. That
 -- they agree, as statements. A term of each stands in proofs/.
-use Rattle.std.specs.Prelude.{ℕ, ◌≡◌, List}
-use Rattle.std.proofs.Math.Option.{Option, none, some}
+use Rattle.std.specs.Prelude.{ℕ, ◌≡◌, List, Option, Some, None}
 use Rattle.zigbee_types.specs.Outcome.{answer, mapped}
 use Rattle.node_flags.specs.Flags.{stack_revision}
 use Rattle.node_descriptor.specs.NodeDescriptor.{node_fields}
 use Rattle.zdo_readers.specs.Readers.{node_reply_in, node_desc_rsp_in, stack_revision_of}
 use Rattle.zdo_readers.specs.declared.descriptor.NodeDescRsp.{NodeDescRsp}
-use Rattle.zdo_readers.specs.declared.descriptor.OptionServerMask.{OptionServerMask}
-use Rattle.zdo_readers.specs.declared.descriptor.OptionServerMask.TheVariants as mask
 use Rattle.zdo_readers.specs.declared.readers.ReplyHeader.{ReplyHeader}
 use Rattle.zdo_readers.specs.declared.readers.NodeReply.{NodeReply}
-use Rattle.zdo_readers.specs.declared.readers.OptionNodeDescriptor.{OptionNodeDescriptor}
-use Rattle.zdo_readers.specs.declared.readers.OptionNodeDescriptor.TheVariants as node
 
 -- the server mask of a descriptor, where there is one
-abbrev pub mask_of : OptionNodeDescriptor → OptionServerMask
-mask_of (node.Some d) = mask.Some (node_fields d).server_mask
-mask_of node.None = mask.None
+abbrev pub mask_of : Option NodeDescriptor → Option ℕ
+mask_of (Some d) = Some (node_fields d).server_mask
+mask_of None = None
 
 -- its stack revision, as `get_stack_compliance_revision` gives it
-abbrev pub revision_of : OptionNodeDescriptor → Option ℕ
-revision_of (node.Some d) = some (stack_revision (node_fields d).server_mask)
-revision_of node.None = none
+abbrev pub revision_of : Option NodeDescriptor → Option ℕ
+revision_of (Some d) = Some (stack_revision (node_fields d).server_mask)
+revision_of None = None
 
 -- a reply in brief: what its header says, and a server mask
-abbrev pub rsp_of : ReplyHeader → OptionServerMask → NodeDescRsp
+abbrev pub rsp_of : ReplyHeader → Option ℕ → NodeDescRsp
 rsp_of h m = record { seq = h.seq; status = h.status; nwk_addr_of_interest = h.nwk_addr_of_interest; server_mask = m }
 
 -- what a whole node reply says of sequence number, status, address and server mask

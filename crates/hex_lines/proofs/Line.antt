@@ -1,4 +1,5 @@
 -- A line that is written: its length, and that its parts are put one behind the other. Assumes nothing.
+use Rattle.std.specs.Prelude.{Ok, Err}
 use Prim.Native.Nat.{ℕ, ◌+◌, ◌-◌, ◌*◌, ◌/◌, ◌%◌, ◌≤◌, ◌<◌}
 use native.Mathlib.Nat.{zero-add}
 use native.Mathlib.Omega.{arith}
@@ -6,9 +7,8 @@ use mathlib.Core.Path.{◌≡◌, ◌∙◌}
 use mathlib.Core.List.{List, [], ◌∷◌}
 use lib.ListN.{length, set, length-set}
 use Rattle.zigbee_types.specs.Outcome.{answer, Wrote}
-use Rattle.zigbee_types.specs.Answers.{written_says}
+use Rattle.zigbee_types.specs.Answers.{says}
 use Rattle.zigbee_types.specs.declared.Refusal.TheVariants.{ShortBuffer}
-use Rattle.zigbee_types.specs.declared.Written.TheVariants.{Length, Refused}
 use Rattle.zigbee_types.proofs.Outcomes.{wrote_stored, wrote_full}
 use Rattle.hex_lines.specs.Hex.{digits_of, BytesPut}
 use Rattle.hex_lines.specs.RequestLine.{SPACE, hex_line}
@@ -22,8 +22,8 @@ module _ (cluster : ℕ) (bytes : List ℕ) where
 
   module _ {s : List ℕ} where
     -- refused where there is no room
-    pub line_full : length s < 5 + 2 * length bytes → Wrote (answer (hex_line cluster bytes)) s (written_says (Refused ShortBuffer)) s
-    unfolding written_says
+    pub line_full : length s < 5 + 2 * length bytes → Wrote (answer (hex_line cluster bytes)) s (says (Err ShortBuffer)) s
+    unfolding says
     line_full h = wrote_full (hex_line cluster bytes) s (rw length_line h)
 
     -- otherwise the two bytes of the cluster and the space are put
@@ -43,8 +43,8 @@ module _ (cluster : ℕ) (bytes : List ℕ) where
 
         -- and with them the line is written
         pub line_written :
-            {n : ℕ} {v : List ℕ} → BytesPut (digits_of bytes) (set u j SPACE) (j + 1) n v → Wrote (answer (hex_line cluster bytes)) s (written_says (Length n)) v
-        unfolding written_says hex_line digits_of
+            {n : ℕ} {v : List ℕ} → BytesPut (digits_of bytes) (set u j SPACE) (j + 1) n v → Wrote (answer (hex_line cluster bytes)) s (says (Ok n)) v
+        unfolding says hex_line digits_of
         line_written r =
             let put = put_both p (put_both q (put_both (put_one u j SPACE) r)) in
             wrote_stored (hex_line cluster bytes) (rw zero-add at put.moved) put.left (rw length_line (omega arith))

@@ -1,6 +1,6 @@
 -- What equals one thing is one: a line is read with one outcome. Assumes nothing.
+use Rattle.std.specs.Prelude.{Option, None, Some}
 use mathlib.Core.Path.{◌≡◌, refl, sym, ◌∙◌}
-use mathlib.Core.Option.{Option, none, some}
 use Rattle.zigbee_types.proofs.OneOutcome.{determined, refused_back}
 use Rattle.hex_lines.specs.RequestLine.{Heard}
 use Rattle.hex_lines.specs.Answers.{line_says}
@@ -10,8 +10,8 @@ use Rattle.hex_lines.specs.declared.ParsedLine.TheVariants as parsed
 
 -- the answer that says so
 abbrev line_of : Option Heard → ParsedLine
-line_of none = parsed.Other
-line_of (some h) = parsed.Request h.cluster h.length
+line_of None = parsed.Other
+line_of (Some h) = parsed.Request h.cluster h.length
 
 -- so it is determined by what it says
 one_answer : (r s : ParsedLine) → line_says r ≡ line_says s → r ≡ s

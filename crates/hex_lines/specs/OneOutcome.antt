@@ -1,7 +1,6 @@
 -- The shape of a line reader's contract leaves one outcome, as a statement: any two that are permitted coincide. A term of it stands in
 -- proofs/.
-use Rattle.std.specs.Prelude.{ℕ, ◌≡◌, List}
-use Rattle.std.proofs.Math.Option.{Option}
+use Rattle.std.specs.Prelude.{ℕ, ◌≡◌, List, Option}
 use Rattle.hex_lines.specs.RequestLine.{Request, LineRead}
 use Rattle.hex_lines.specs.Answers.{line_says}
 use Rattle.hex_lines.specs.declared.ParsedLine.{ParsedLine}

@@ -1,6 +1,5 @@
 -- What is written as a line reads back, as statements. A term of each stands in proofs/.
-use Rattle.std.specs.Prelude.{ℕ, ◌^◌, ◌<◌, ◌≡◌, true, List, length}
-use Rattle.std.proofs.Math.Option.{some}
+use Rattle.std.specs.Prelude.{ℕ, ◌^◌, ◌<◌, ◌≡◌, true, List, length, Some}
 use Rattle.zigbee_types.specs.FieldLaws.{are_bytes}
 use Rattle.hex_lines.specs.Hex.{bytes_in, digits_of}
 use Rattle.hex_lines.specs.RequestLine.{request_in, hex_line}
@@ -16,4 +15,4 @@ LineReadsBack =
     → cluster < 2 ^ 16
     → are_bytes bytes ≡ true
     → 0 < length bytes
-    → request_in (hex_line cluster bytes) ≡ some (record { cluster = cluster; payload = bytes })
+    → request_in (hex_line cluster bytes) ≡ Some (record { cluster = cluster; payload = bytes })

@@ -1,7 +1,6 @@
 -- A line that names a cluster and bytes: four hexadecimal digits, a space, and the bytes (document 01, "Counter-cases", the program
 -- `answer`).
-use Rattle.std.specs.Prelude.{ℕ, ◌+◌, ◌*◌, ◌/◌, ◌%◌, ◌≡◌, Bool, ◌&&◌, cond, List, [], ◌∷◌, ◌++◌, eqb, leb, length, get_or, take, drop}
-use Rattle.std.proofs.Math.Option.{Option, none, some}
+use Rattle.std.specs.Prelude.{ℕ, ◌+◌, ◌*◌, ◌/◌, ◌%◌, ◌≡◌, Bool, ◌&&◌, cond, List, [], ◌∷◌, ◌++◌, eqb, leb, length, get_or, take, drop, Option, Some, None}
 use Rattle.zigbee_types.specs.Lists.{all}
 use Rattle.zigbee_types.specs.Outcome.{Outcome, answer, refusal, mapped, written}
 use Rattle.hex_lines.specs.Hex.{digit_value, is_digit, bytes_in, digits_of}
@@ -28,16 +27,16 @@ unfoldable pub cluster_in : List ℕ → ℕ
 cluster_in line =
     4096 * digit_value (get_or line 0 0) + 256 * digit_value (get_or line 1 0) + 16 * digit_value (get_or line 2 0) + digit_value (get_or line 3 0)
 
--- the request of a line, or none
+-- the request of a line, or None
 unfoldable pub request_in : List ℕ → Option Request
-request_in line = cond (is_request line) (some (record { cluster = cluster_in line; payload = bytes_in (drop 5 line) })) none
+request_in line = cond (is_request line) (Some (record { cluster = cluster_in line; payload = bytes_in (drop 5 line) })) None
 
 -- ---- with a buffer for the payload
 
 -- refusal 5: the payload is longer than the room for it
 unfoldable pub with_room : ℕ → Option Request → Outcome (Option Request)
-with_room room none = answer none
-with_room room (some q) = cond (leb (length q.payload) room) (answer (some q)) (refusal 5)
+with_room room None = answer None
+with_room room (Some q) = cond (leb (length q.payload) room) (answer (Some q)) (refusal 5)
 
 -- what is told of a request: its cluster, and how long its payload is
 pub record Heard : Type 0 where
@@ -46,13 +45,13 @@ pub record Heard : Type 0 where
 
 -- that of a request, where there is one
 unfoldable pub heard_of : Option Request → Option Heard
-heard_of none = none
-heard_of (some q) = some (record { cluster = q.cluster; length = length q.payload })
+heard_of None = None
+heard_of (Some q) = Some (record { cluster = q.cluster; length = length q.payload })
 
 -- what the buffer then holds: the payload and what stood behind it; without a request, what it held before
 unfoldable pub payload_left : List ℕ → Outcome (Option Request) → List ℕ
-payload_left before (answer none) = before
-payload_left before (answer (some q)) = written before (answer q.payload)
+payload_left before (answer None) = before
+payload_left before (answer (Some q)) = written before (answer q.payload)
 payload_left before (refusal n) = before
 
 -- a line that comes to o: what is told, and the buffer after it

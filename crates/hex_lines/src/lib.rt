@@ -4,12 +4,12 @@
 ghost use Rattle.std.specs.Prelude.{◌≡◌, true, [], ◌∷◌, ◌+◌, ◌*◌, ◌≤◌, ◌<◌, length, get_or};
 ghost use Rattle.zigbee_types.specs.Lists.{all};
 ghost use Rattle.zigbee_types.specs.Outcome.{answer, Wrote};
-ghost use Rattle.zigbee_types.specs.Answers.{written_says};
+ghost use Rattle.zigbee_types.specs.Answers.{says};
 ghost use Rattle.hex_lines.specs.Hex.{between, digit_value, is_digit, bytes_in, capital, digits_of, BytesPut};
 ghost use Rattle.hex_lines.specs.RequestLine.{is_request, cluster_in, request_in, LineRead, hex_line};
 ghost use Rattle.hex_lines.specs.Answers.{line_says};
 
-use zigbee_types::{Refusal, Written};
+use zigbee_types::Refusal;
 
 // What a line is: a request, with its cluster and the length of its payload; none; or why it was refused.
 #[derive(Clone, Copy)]
@@ -164,17 +164,17 @@ fn put_digits(out: &mut [u8], at: usize, bytes: &[u8]) -> usize
 }
 
 // Writes a cluster and bytes as a line at the front of a buffer, in capitals. Too short a buffer is refused, and nothing is written.
-pub fn write_line(cluster: u16, bytes: &[u8], out: &mut [u8]) -> Written
-    ensures { Wrote (answer (hex_line cluster bytes.now)) out.old (written_says result) out.new }
+pub fn write_line(cluster: u16, bytes: &[u8], out: &mut [u8]) -> Result<usize, Refusal>
+    ensures { Wrote (answer (hex_line cluster bytes.now)) out.old (says result) out.new }
 {
     if out.len() < FRONT {
-        return Written::Refused(Refusal::ShortBuffer);
+        return Err(Refusal::ShortBuffer);
     }
     if (out.len() - FRONT) / 2 < bytes.len() {
-        return Written::Refused(Refusal::ShortBuffer);
+        return Err(Refusal::ShortBuffer);
     }
     let at = put_pair(out, 0, (cluster / 256) as u8);
     let at = put_pair(out, at, (cluster % 256) as u8);
     out[at] = b' ';
-    Written::Length(put_digits(out, at + 1, bytes))
+    Ok(put_digits(out, at + 1, bytes))
 }

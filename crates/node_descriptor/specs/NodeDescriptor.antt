@@ -1,5 +1,6 @@
 -- The node descriptor (2.3.2.3): thirteen bytes that say what a device is (document 01, module 2).
-use Rattle.std.specs.Prelude.{ℕ, ◌+◌, ◌*◌, ◌/◌, ◌%◌, false, List, [], ◌∷◌}
+use Rattle.std.specs.Prelude.{ℕ, ◌+◌, ◌*◌, ◌/◌, ◌%◌, false, List, [], ◌∷◌, Result, Ok, Err}
+use Rattle.zigbee_types.specs.declared.Refusal.{Refusal}
 use Rattle.zigbee_types.specs.Outcome.{Outcome, answer, refusal}
 use Rattle.zigbee_types.specs.Refusals.{refusal_number}
 use Rattle.zigbee_types.specs.Bytes.{bit, bit_at}
@@ -9,8 +10,6 @@ use Rattle.node_descriptor.specs.declared.descriptor.NodeDescriptorConfig.{NodeD
 use Rattle.node_descriptor.specs.declared.LogicalType.{LogicalType}
 use Rattle.node_descriptor.specs.declared.LogicalType.TheVariants.{Coordinator, Router, EndDevice, Reserved}
 use Rattle.node_descriptor.specs.declared.NodeDescriptor.{NodeDescriptor}
-use Rattle.node_descriptor.specs.declared.NodeDescriptorRead.{NodeDescriptorRead}
-use Rattle.node_descriptor.specs.declared.NodeDescriptorRead.TheVariants.{Descriptor, Refused}
 
 -- 2.3.2.3.1: the number of a logical type; a reserved type has the number that it holds
 abbrev pub type_number : LogicalType → ℕ
@@ -98,11 +97,6 @@ node_descriptor_in =
       maximum_outgoing_transfer_size = field 7;
       descriptor_capability_field = field 8;
     })
-
--- what the reader's answer says
-unfoldable pub node_says : NodeDescriptorRead → Outcome NodeDescriptor
-node_says (Descriptor d) = answer d
-node_says (Refused why) = refusal (refusal_number why)
 
 -- what a descriptor that was read says: each accessor of 001 gives one of these
 abbrev pub node_fields : NodeDescriptor → NodeDescriptorConfig

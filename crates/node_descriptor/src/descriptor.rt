@@ -1,13 +1,13 @@
 // What a device says of itself: the configuration that the node descriptor is written from (000; 2.3.2.3).
 ghost use Rattle.std.specs.Prelude.{◌≡◌};
 ghost use Rattle.zigbee_types.specs.Outcome.{answer, Wrote};
-ghost use Rattle.zigbee_types.specs.Answers.{written_says};
+ghost use Rattle.zigbee_types.specs.Answers.{says};
 ghost use Rattle.zigbee_types.specs.Layout.{laid};
 ghost use Rattle.node_descriptor.specs.NodeDescriptor.{default_node, node_byte0, node_byte1, node_descriptor_of};
 
 use crate::{LogicalType, NODE_DESCRIPTOR_SIZE};
 use byte::{write_u8, write_u16};
-use zigbee_types::{Refusal, Written};
+use zigbee_types::Refusal;
 
 // Static configuration of the node descriptor (2.3.2.3).
 #[derive(Clone, Copy)]
@@ -66,11 +66,11 @@ impl NodeDescriptorConfig {
 
     // Writes the 13-byte node descriptor (2.3.2.3) in transmission order at the front of a buffer. Too short a buffer is
     // refused, and nothing is written.
-    pub fn write(self, out: &mut [u8]) -> Written
-        ensures { Wrote (answer (laid (node_descriptor_of self))) out.old (written_says result) out.new }
+    pub fn write(self, out: &mut [u8]) -> Result<usize, Refusal>
+        ensures { Wrote (answer (laid (node_descriptor_of self))) out.old (says result) out.new }
     {
         if out.len() < NODE_DESCRIPTOR_SIZE {
-            return Written::Refused(Refusal::ShortBuffer);
+            return Err(Refusal::ShortBuffer);
         }
         let at = write_u8(out, 0, self.byte0());
         let at = write_u8(out, at, self.byte1());
@@ -81,6 +81,6 @@ impl NodeDescriptorConfig {
         let at = write_u16(out, at, self.server_mask);
         let at = write_u16(out, at, self.maximum_outgoing_transfer_size);
         let at = write_u8(out, at, self.descriptor_capability_field);
-        Written::Length(at)
+        Ok(at)
     }
 }

@@ -4,7 +4,8 @@
 pub mod descriptor;
 
 ghost use Rattle.std.specs.Prelude.{◌≡◌, ◌%◌};
-ghost use Rattle.node_descriptor.specs.NodeDescriptor.{type_number, type_bits, logical_type_of, default_type, node_descriptor_in, node_says, node_fields};
+ghost use Rattle.node_descriptor.specs.NodeDescriptor.{type_number, type_bits, logical_type_of, default_type, node_descriptor_in, node_fields};
+ghost use Rattle.zigbee_types.specs.Answers.{says};
 
 use byte::{bit_at, read_u8, read_u16};
 use node_flags::{DescriptorCapabilities, FrequencyBands, MacCapabilities, ServerMask};
@@ -83,20 +84,13 @@ pub struct NodeDescriptor {
     pub descriptor_capability_field: u8,
 }
 
-// A node descriptor that was read, or why none was.
-#[derive(Clone, Copy)]
-pub enum NodeDescriptorRead {
-    Descriptor(NodeDescriptor),
-    Refused(Refusal),
-}
-
 impl NodeDescriptor {
     // Reads the descriptor at the front of bytes: thirteen, field by field (2.3.2.3).
-    pub fn try_read(bytes: &[u8]) -> NodeDescriptorRead
-        ensures { node_says result ≡ node_descriptor_in bytes.now }
+    pub fn try_read(bytes: &[u8]) -> Result<NodeDescriptor, Refusal>
+        ensures { says result ≡ node_descriptor_in bytes.now }
     {
         if bytes.len() < NODE_DESCRIPTOR_SIZE {
-            return NodeDescriptorRead::Refused(Refusal::Malformed);
+            return Err(Refusal::Malformed);
         }
         let byte0 = read_u8(bytes, 0);
         let byte1 = read_u8(bytes, byte0.next);
@@ -107,7 +101,7 @@ impl NodeDescriptor {
         let server_mask = read_u16(bytes, maximum_incoming_transfer_size.next);
         let maximum_outgoing_transfer_size = read_u16(bytes, server_mask.next);
         let descriptor_capability_field = read_u8(bytes, maximum_outgoing_transfer_size.next);
-        NodeDescriptorRead::Descriptor(NodeDescriptor {
+        Ok(NodeDescriptor {
             byte0: byte0.value,
             byte1: byte1.value,
             mac_capability_flags: mac_capability_flags.value,

@@ -1,5 +1,6 @@
 -- The node power descriptor (2.3.2.4): two bytes, four fields of four bits (document 01, module 3).
-use Rattle.std.specs.Prelude.{ℕ, ◌+◌, ◌*◌, ◌/◌, ◌%◌, Bool, ◌||◌, ◌&&◌, cond, List, [], ◌∷◌, eqb}
+use Rattle.std.specs.Prelude.{ℕ, ◌+◌, ◌*◌, ◌/◌, ◌%◌, Bool, ◌||◌, ◌&&◌, cond, List, [], ◌∷◌, eqb, Result, Ok, Err}
+use Rattle.zigbee_types.specs.declared.Refusal.{Refusal}
 use Rattle.zigbee_types.specs.Outcome.{Outcome, answer, refusal, and_then}
 use Rattle.zigbee_types.specs.Refusals.{refusal_number}
 use Rattle.zigbee_types.specs.Bytes.{bit_at}
@@ -9,8 +10,6 @@ use Rattle.power_names.specs.Names.{mode_bits, current_power_mode_of, source_bit
 use Rattle.power_names.specs.declared.PowerSource.{PowerSource}
 use Rattle.node_power_descriptor.specs.declared.descriptor.PowerDescriptorConfig.{PowerDescriptorConfig}
 use Rattle.node_power_descriptor.specs.declared.NodePowerDescriptor.{NodePowerDescriptor}
-use Rattle.node_power_descriptor.specs.declared.NodePowerDescriptorRead.{NodePowerDescriptorRead}
-use Rattle.node_power_descriptor.specs.declared.NodePowerDescriptorRead.TheVariants.{Descriptor, Refused}
 
 -- ---- writing
 
@@ -61,7 +60,3 @@ power_descriptor_in bytes =
     (parsed power_widths (λ field. record { «byte0» = field 0; «byte1» = field 1 }) bytes)
     (λ d. cond (usable (d.«byte0» / 16) (d.«byte1» % 16)) (answer d) (refusal 3))
 
--- what the reader's answer says
-unfoldable pub power_says : NodePowerDescriptorRead → Outcome NodePowerDescriptor
-power_says (Descriptor d) = answer d
-power_says (Refused why) = refusal (refusal_number why)

@@ -1,14 +1,14 @@
 // What a device says of its power: the configuration that the power descriptor is written from (000; 2.3.2.4).
 ghost use Rattle.std.specs.Prelude.{◌≡◌};
 ghost use Rattle.zigbee_types.specs.Outcome.{answer, Wrote};
-ghost use Rattle.zigbee_types.specs.Answers.{written_says};
+ghost use Rattle.zigbee_types.specs.Answers.{says};
 ghost use Rattle.zigbee_types.specs.Layout.{laid};
 ghost use Rattle.node_power_descriptor.specs.PowerDescriptor.{power_byte0, power_byte1, power_descriptor_of};
 
 use crate::NODE_POWER_DESCRIPTOR_SIZE;
 use byte::write_u8;
 use power_names::{CurrentPowerMode, CurrentPowerSourceLevel, PowerSource};
-use zigbee_types::{Refusal, Written};
+use zigbee_types::Refusal;
 
 // Static configuration of the node power descriptor (2.3.2.4).
 #[derive(Clone, Copy)]
@@ -43,14 +43,14 @@ impl PowerDescriptorConfig {
 
     // Writes the 2-byte node power descriptor (2.3.2.4) at the front of a buffer; each octet holds the earlier-transmitted
     // field in its low nibble. Too short a buffer is refused, and nothing is written.
-    pub fn write(self, out: &mut [u8]) -> Written
-        ensures { Wrote (answer (laid (power_descriptor_of self))) out.old (written_says result) out.new }
+    pub fn write(self, out: &mut [u8]) -> Result<usize, Refusal>
+        ensures { Wrote (answer (laid (power_descriptor_of self))) out.old (says result) out.new }
     {
         if out.len() < NODE_POWER_DESCRIPTOR_SIZE {
-            return Written::Refused(Refusal::ShortBuffer);
+            return Err(Refusal::ShortBuffer);
         }
         let at = write_u8(out, 0, self.byte0());
         let at = write_u8(out, at, self.byte1());
-        Written::Length(at)
+        Ok(at)
     }
 }

@@ -4,7 +4,8 @@
 pub mod descriptor;
 
 ghost use Rattle.std.specs.Prelude.{◌≡◌, ◌/◌, ◌%◌};
-ghost use Rattle.node_power_descriptor.specs.PowerDescriptor.{power_descriptor_in, power_says, power_fields, supports, usable};
+ghost use Rattle.node_power_descriptor.specs.PowerDescriptor.{power_descriptor_in, power_fields, supports, usable};
+ghost use Rattle.zigbee_types.specs.Answers.{says};
 
 use byte::{nibble, read_u8};
 use power_names::{CurrentPowerMode, CurrentPowerSourceLevel, PowerSource};
@@ -19,21 +20,14 @@ pub struct NodePowerDescriptor {
     pub byte1: u8,
 }
 
-// A node power descriptor that was read, or why none was.
-#[derive(Clone, Copy)]
-pub enum NodePowerDescriptorRead {
-    Descriptor(NodePowerDescriptor),
-    Refused(Refusal),
-}
-
 impl NodePowerDescriptor {
     // Reads the descriptor at the front of bytes: two, whose current source has a name and is available (2.3.2.4;
     // document 01, module 3).
-    pub fn try_read(bytes: &[u8]) -> NodePowerDescriptorRead
-        ensures { power_says result ≡ power_descriptor_in bytes.now }
+    pub fn try_read(bytes: &[u8]) -> Result<NodePowerDescriptor, Refusal>
+        ensures { says result ≡ power_descriptor_in bytes.now }
     {
         if bytes.len() < NODE_POWER_DESCRIPTOR_SIZE {
-            return NodePowerDescriptorRead::Refused(Refusal::Malformed);
+            return Err(Refusal::Malformed);
         }
         let byte0 = read_u8(bytes, 0);
         let byte1 = read_u8(bytes, byte0.next);
@@ -42,9 +36,9 @@ impl NodePowerDescriptor {
             byte1: byte1.value,
         };
         if !descriptor.is_usable() {
-            return NodePowerDescriptorRead::Refused(Refusal::Malformed);
+            return Err(Refusal::Malformed);
         }
-        NodePowerDescriptorRead::Descriptor(descriptor)
+        Ok(descriptor)
     }
 
     // Whether the current source has a name and is available.

@@ -5,10 +5,7 @@ use crate::readers::{put_header, put_none, put_status};
 use crate::requests::put_places;
 use simple_descriptor::SimpleDescriptorFields;
 use std::io;
-use zdo_list_readers::readers::{
-    ListReply, ListReplyRead, MatchReply, MatchReplyRead, OptionSimpleDescriptor, SimpleReply,
-    SimpleReplyRead,
-};
+use zdo_list_readers::readers::{ListReply, MatchReply, SimpleReply};
 
 // Puts the reply that a reader gives, by the reader's place among the questions.
 pub(crate) fn read(bytes: &[u8], reader: usize, text: Text) -> io::Result<Text> {
@@ -22,8 +19,8 @@ pub(crate) fn read(bytes: &[u8], reader: usize, text: Text) -> io::Result<Text> 
 // Puts an active reply, or `R`.
 fn list(bytes: &[u8], text: Text) -> io::Result<Text> {
     match ListReply::try_read(bytes) {
-        ListReplyRead::Reply(reply) => put_list(reply, text),
-        ListReplyRead::Refused(_) => out::byte(text, b'R'),
+        Ok(reply) => put_list(reply, text),
+        Err(_) => out::byte(text, b'R'),
     }
 }
 
@@ -36,8 +33,8 @@ fn put_list(reply: ListReply, text: Text) -> io::Result<Text> {
 // Puts a match reply, or `R`.
 fn matched(bytes: &[u8], text: Text) -> io::Result<Text> {
     match MatchReply::try_read(bytes) {
-        MatchReplyRead::Reply(reply) => put_match(reply, text),
-        MatchReplyRead::Refused(_) => out::byte(text, b'R'),
+        Ok(reply) => put_match(reply, text),
+        Err(_) => out::byte(text, b'R'),
     }
 }
 
@@ -52,25 +49,25 @@ fn put_match(reply: MatchReply, text: Text) -> io::Result<Text> {
 // Puts a simple reply, or `R`.
 fn simple(bytes: &[u8], text: Text) -> io::Result<Text> {
     match SimpleReply::try_read(bytes) {
-        SimpleReplyRead::Reply(reply) => {
+        Ok(reply) => {
             let descriptor = reply.descriptor;
             put_simple(descriptor, put_header(reply.header, text)?)
         }
-        SimpleReplyRead::Refused(_) => out::byte(text, b'R'),
+        Err(_) => out::byte(text, b'R'),
     }
 }
 
 // Puts a simple descriptor after a space, an endpoint and where its two lists stand, or `-` for none.
-fn put_simple(descriptor: OptionSimpleDescriptor, text: Text) -> io::Result<Text> {
+fn put_simple(descriptor: Option<SimpleDescriptorFields>, text: Text) -> io::Result<Text> {
     match descriptor {
-        OptionSimpleDescriptor::Some(fields) => {
+        Some(fields) => {
             let inputs = fields.input_clusters;
             let outputs = fields.output_clusters;
             let text = put_endpoint(fields, text)?;
             let text = put_places(inputs, text)?;
             put_places(outputs, text)
         }
-        OptionSimpleDescriptor::None => put_none(text),
+        None => put_none(text),
     }
 }
 

@@ -3,7 +3,7 @@ use crate::out::Text;
 use crate::words::{u8_at, u16_at};
 use crate::{flags, out, values, words};
 use node_descriptor::descriptor::NodeDescriptorConfig;
-use node_descriptor::{LogicalType, NodeDescriptor, NodeDescriptorRead};
+use node_descriptor::{LogicalType, NodeDescriptor};
 use std::io;
 
 // Puts the answer to a question about the node descriptor, or hands the line on.
@@ -51,33 +51,33 @@ pub(crate) fn node_of(word: &[u8]) -> NodeDescriptorConfig {
 }
 
 // What is read from the BYTES that stand behind the name of a question.
-fn read(line: &[u8]) -> NodeDescriptorRead {
+fn read(line: &[u8]) -> Result<NodeDescriptor, Refusal> {
     let mut space = [0u8; words::BYTES];
     let count = words::bytes_in(line, 1, &mut space);
     NodeDescriptor::try_read(&space[0..count])
 }
 
 // Puts how many bytes a descriptor was read from, always thirteen, or `R`.
-fn try_read(found: NodeDescriptorRead, text: Text) -> io::Result<Text> {
+fn try_read(found: Result<NodeDescriptor, Refusal>, text: Text) -> io::Result<Text> {
     match found {
-        NodeDescriptorRead::Descriptor(_) => out::decimal(text, 13),
-        NodeDescriptorRead::Refused(_) => out::byte(text, b'R'),
+        Ok(_) => out::decimal(text, 13),
+        Err(_) => out::byte(text, b'R'),
     }
 }
 
 // Puts the logical type of a descriptor. Bytes that are none are no question.
-fn logical_type(found: NodeDescriptorRead, text: Text) -> io::Result<Text> {
+fn logical_type(found: Result<NodeDescriptor, Refusal>, text: Text) -> io::Result<Text> {
     match found {
-        NodeDescriptorRead::Descriptor(descriptor) => { put_type(descriptor.logical_type(), text) }
-        NodeDescriptorRead::Refused(_) => Ok(text),
+        Ok(descriptor) => { put_type(descriptor.logical_type(), text) }
+        Err(_) => Ok(text),
     }
 }
 
 // Puts what the other accessors say of a descriptor. Bytes that are none are no question.
-fn accessors(found: NodeDescriptorRead, text: Text) -> io::Result<Text> {
+fn accessors(found: Result<NodeDescriptor, Refusal>, text: Text) -> io::Result<Text> {
     match found {
-        NodeDescriptorRead::Descriptor(descriptor) => put_fields(fields(descriptor), text),
-        NodeDescriptorRead::Refused(_) => Ok(text),
+        Ok(descriptor) => put_fields(fields(descriptor), text),
+        Err(_) => Ok(text),
     }
 }
 

@@ -4,7 +4,6 @@ ghost use Rattle.std.specs.Prelude.{◌<◌};
 use crate::words;
 use std::io;
 use std::io::Stdout;
-use zigbee_types::Written;
 
 // The most characters of an answer that are not written out yet.
 const ROOM: usize = 256;
@@ -175,10 +174,10 @@ pub(crate) fn wrote(text: Text, count: usize, buffer: &[u8]) -> io::Result<Text>
 }
 
 // Puts what a writer answered, and the buffer that it left. The word of the question says the buffer as it was.
-pub(crate) fn written(text: Text, answer: Written, word: &[u8], buffer: &[u8]) -> io::Result<Text> {
+pub(crate) fn written(text: Text, answer: Result<usize, Refusal>, word: &[u8], buffer: &[u8]) -> io::Result<Text> {
     match answer {
-        Written::Length(count) => wrote(text, count, buffer),
-        Written::Refused(_) => refused(text, word, buffer),
+        Ok(count) => wrote(text, count, buffer),
+        Err(_) => refused(text, word, buffer),
     }
 }
 

@@ -3,7 +3,7 @@ use crate::out::Text;
 use crate::words::u16_at;
 use crate::{bits, out, values, words};
 use node_power_descriptor::descriptor::PowerDescriptorConfig;
-use node_power_descriptor::{NodePowerDescriptor, NodePowerDescriptorRead};
+use node_power_descriptor::NodePowerDescriptor;
 use std::io;
 
 // Puts the answer to a question about the node power descriptor, or hands the line on.
@@ -46,8 +46,8 @@ fn try_read(line: &[u8], text: Text) -> io::Result<Text> {
     let mut space = [0u8; words::BYTES];
     let count = words::bytes_in(line, 1, &mut space);
     match NodePowerDescriptor::try_read(&space[0..count]) {
-        NodePowerDescriptorRead::Descriptor(_) => out::decimal(text, 2),
-        NodePowerDescriptorRead::Refused(_) => out::byte(text, b'R'),
+        Ok(_) => out::decimal(text, 2),
+        Err(_) => out::byte(text, b'R'),
     }
 }
 
@@ -87,8 +87,8 @@ fn descriptor_of(line: &[u8]) -> NodePowerDescriptor {
     let mut space = [0u8; words::BYTES];
     let count = words::bytes_in(line, 1, &mut space);
     match NodePowerDescriptor::try_read(&space[0..count]) {
-        NodePowerDescriptorRead::Descriptor(descriptor) => descriptor,
-        NodePowerDescriptorRead::Refused(_) => made_of(words::word_of(line, 1)),
+        Ok(descriptor) => descriptor,
+        Err(_) => made_of(words::word_of(line, 1)),
     }
 }
 

@@ -4,13 +4,8 @@ use crate::out::Text;
 use crate::requests::{put_places, put_u16};
 use crate::{bindings, list_readers, node, out, power, words};
 use std::io;
-use zdo_readers::descriptor::{
-    NodeDescRsp, NodeDescRspRead, OptionServerMask, OptionStackRevision, parse_node_desc_rsp,
-};
-use zdo_readers::readers::{
-    AddrReply, AddrReplyRead, NodeReply, NodeReplyRead, OptionAssociated, OptionNodeDescriptor,
-    OptionPowerDescriptor, PowerReply, PowerReplyRead, ReplyHeader, StatusReply, StatusReplyRead,
-};
+use zdo_readers::descriptor::{NodeDescRsp, parse_node_desc_rsp};
+use zdo_readers::readers::{AddrReply, NodeReply, PowerReply, ReplyHeader, StatusReply};
 use zigbee_types::ShortAddress;
 
 // Puts the answer to a question about a reader, or hands the line on.
@@ -50,26 +45,26 @@ fn read(line: &[u8], reader: usize, text: Text) -> io::Result<Text> {
 // Puts what the Rust's reader gives of a node reply, or `R`.
 fn node_desc(bytes: &[u8], text: Text) -> io::Result<Text> {
     match parse_node_desc_rsp(bytes) {
-        NodeDescRspRead::Reply(reply) => {
+        Ok(reply) => {
             let server_mask = reply.server_mask;
             let text = put_status(reply.seq, reply.status, text)?;
             let text = put_u16(reply.nwk_addr_of_interest.0, text)?;
             put_mask(server_mask, text)
         }
-        NodeDescRspRead::Refused(_) => out::byte(text, b'R'),
+        Err(_) => out::byte(text, b'R'),
     }
 }
 
 // Puts a server mask after a space, or `-` for none.
-fn put_mask(mask: OptionServerMask, text: Text) -> io::Result<Text> {
+fn put_mask(mask: Option<u16>, text: Text) -> io::Result<Text> {
     match mask {
-        OptionServerMask::Some(mask) => put_u16(mask, text),
-        OptionServerMask::None => put_none(text),
+        Some(mask) => put_u16(mask, text),
+        None => put_none(text),
     }
 }
 
 // The stack revision of a node reply with the mask that stands behind the question's name.
-fn revision(line: &[u8]) -> OptionStackRevision {
+fn revision(line: &[u8]) -> Option<u8> {
     let reply = NodeDescRsp {
         seq: 0,
         status: 0,
@@ -80,69 +75,69 @@ fn revision(line: &[u8]) -> OptionStackRevision {
 }
 
 // The server mask that a word says, or none.
-fn mask_of(word: &[u8]) -> OptionServerMask {
+fn mask_of(word: &[u8]) -> Option<u16> {
     if word.len() < 4 {
-        return OptionServerMask::None;
+        return None;
     }
-    OptionServerMask::Some(words::u16_at(word, 0))
+    Some(words::u16_at(word, 0))
 }
 
 // Puts a stack revision, or `-` for none.
-fn put_revision(revision: OptionStackRevision, text: Text) -> io::Result<Text> {
+fn put_revision(revision: Option<u8>, text: Text) -> io::Result<Text> {
     match revision {
-        OptionStackRevision::Some(revision) => out::hex_u8(text, revision),
-        OptionStackRevision::None => out::byte(text, b'-'),
+        Some(revision) => out::hex_u8(text, revision),
+        None => out::byte(text, b'-'),
     }
 }
 
 // Puts a node reply, or `R`.
 fn node(bytes: &[u8], text: Text) -> io::Result<Text> {
     match NodeReply::try_read(bytes) {
-        NodeReplyRead::Reply(reply) => {
+        Ok(reply) => {
             let descriptor = reply.descriptor;
             put_node(descriptor, put_header(reply.header, text)?)
         }
-        NodeReplyRead::Refused(_) => out::byte(text, b'R'),
+        Err(_) => out::byte(text, b'R'),
     }
 }
 
 // Puts a node descriptor after a space, or `-` for none.
-fn put_node(descriptor: OptionNodeDescriptor, text: Text) -> io::Result<Text> {
+fn put_node(descriptor: Option<NodeDescriptor>, text: Text) -> io::Result<Text> {
     match descriptor {
-        OptionNodeDescriptor::Some(descriptor) => {
+        Some(descriptor) => {
             node::put_descriptor(descriptor, out::byte(text, b' ')?)
         }
-        OptionNodeDescriptor::None => put_none(text),
+        None => put_none(text),
     }
 }
 
 // Puts a power reply, or `R`.
 fn power(bytes: &[u8], text: Text) -> io::Result<Text> {
     match PowerReply::try_read(bytes) {
-        PowerReplyRead::Reply(reply) => {
+        Ok(reply) => {
             let descriptor = reply.descriptor;
             put_power(descriptor, put_header(reply.header, text)?)
         }
-        PowerReplyRead::Refused(_) => out::byte(text, b'R'),
+        Err(_) => out::byte(text, b'R'),
     }
 }
 
 // Puts a power descriptor and its available sources, each after a space, or `-` for none.
-fn put_power(descriptor: OptionPowerDescriptor, text: Text) -> io::Result<Text> {
+fn put_power(descriptor: Option<NodePowerDescriptor>, text: Text) -> io::Result<Text> {
     match descriptor {
-        OptionPowerDescriptor::Some(descriptor) => {
+        Some(descriptor) => {
             let text = power::put_descriptor(descriptor, out::byte(text, b' ')?)?;
             let text = out::byte(text, b' ')?;
             out::hex_u8(text, descriptor.available_power_sources())
         }
-        OptionPowerDescriptor::None => put_none(text),
+        None => put_none(text),
     }
 }
 
 // Puts an address reply, or `R`.
 fn addr(bytes: &[u8], text: Text) -> io::Result<Text> {
     match AddrReply::try_read(bytes) {
-        AddrReplyRead::Reply(reply) => {
+        Ok(reply) => {
             let associated = reply.associated;
             let text = put_status(reply.seq, reply.status, text)?;
             let text = out::byte(text, b' ')?;
@@ -150,28 +145,28 @@ fn addr(bytes: &[u8], text: Text) -> io::Result<Text> {
             let text = put_u16(reply.nwk_addr.0, text)?;
             put_associated(associated, text)
         }
-        AddrReplyRead::Refused(_) => out::byte(text, b'R'),
+        Err(_) => out::byte(text, b'R'),
     }
 }
 
 // Puts what an extended address reply adds, each after a space, or `-` for none.
-fn put_associated(associated: OptionAssociated, text: Text) -> io::Result<Text> {
+fn put_associated(associated: Option<Associated>, text: Text) -> io::Result<Text> {
     match associated {
-        OptionAssociated::Some(associated) => {
+        Some(associated) => {
             let devices = associated.devices;
             let text = out::byte(text, b' ')?;
             let text = put_status(associated.num_assoc_dev, associated.start_index, text)?;
             put_places(devices, text)
         }
-        OptionAssociated::None => put_none(text),
+        None => put_none(text),
     }
 }
 
 // Puts a reply that is a status alone, or `R`.
 fn status(bytes: &[u8], text: Text) -> io::Result<Text> {
     match StatusReply::try_read(bytes) {
-        StatusReplyRead::Reply(reply) => put_status(reply.seq, reply.status, text),
-        StatusReplyRead::Refused(_) => out::byte(text, b'R'),
+        Ok(reply) => put_status(reply.seq, reply.status, text),
+        Err(_) => out::byte(text, b'R'),
     }
 }
 

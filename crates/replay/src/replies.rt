@@ -9,7 +9,7 @@ use zdo_desc_rsp::descriptor::{
 use zdo_match_rsp::descriptor::{match_desc_rsp, match_desc_rsp_error};
 use zdo_replies::descriptor::{BindStatus, DiscoveryError, bind_rsp, leave_status, mgmt_leave_rsp};
 use zdo_replies::management::NlmeLeaveStatus;
-use zigbee_types::{IeeeAddress, ShortAddress, Written};
+use zigbee_types::{IeeeAddress, ShortAddress};
 
 // A reply that is written. Those of the last case report an error of discovery.
 #[derive(Clone, Copy)]
@@ -94,7 +94,7 @@ fn write(line: &[u8], reply: Reply, text: Text) -> io::Result<Text> {
 }
 
 // Writes a reply: those with SHORT behind the NUMBER here, the others below.
-fn write_reply(line: &[u8], reply: Reply, buffer: &mut [u8]) -> Written {
+fn write_reply(line: &[u8], reply: Reply, buffer: &mut [u8]) -> Result<usize, Refusal> {
     let seq = words::u8_in(line, 1);
     let address = ShortAddress(words::u16_in(line, 2));
     match reply {
@@ -108,7 +108,7 @@ fn write_reply(line: &[u8], reply: Reply, buffer: &mut [u8]) -> Written {
 }
 
 // Writes a reply that has no SHORT behind its NUMBER.
-fn write_other(line: &[u8], reply: Reply, seq: u8, buffer: &mut [u8]) -> Written {
+fn write_other(line: &[u8], reply: Reply, seq: u8, buffer: &mut [u8]) -> Result<usize, Refusal> {
     let number = words::u8_in(line, 2);
     match reply {
         Reply::Addr => write_addr(line, seq, buffer),
@@ -119,14 +119,14 @@ fn write_other(line: &[u8], reply: Reply, seq: u8, buffer: &mut [u8]) -> Written
 }
 
 // Writes a power reply: behind the question's name stand NUMBER SHORT POWER NAMEDS BUFFER.
-fn write_power(line: &[u8], seq: u8, address: ShortAddress, buffer: &mut [u8]) -> Written {
+fn write_power(line: &[u8], seq: u8, address: ShortAddress, buffer: &mut [u8]) -> Result<usize, Refusal> {
     let available = bits::bitmap(line, 4);
     let power = power::power_of(words::word_of(line, 3), available);
     power_desc_rsp(power, seq, address, buffer)
 }
 
 // Writes an address reply: behind the question's name stand NUMBER IEEE SHORT FLAG BUFFER.
-fn write_addr(line: &[u8], seq: u8, buffer: &mut [u8]) -> Written {
+fn write_addr(line: &[u8], seq: u8, buffer: &mut [u8]) -> Result<usize, Refusal> {
     addr_rsp(
         seq,
         IeeeAddress(words::hex_in(line, 2)),
@@ -137,7 +137,7 @@ fn write_addr(line: &[u8], seq: u8, buffer: &mut [u8]) -> Written {
 }
 
 // Writes a match reply: behind the question's name stand NUMBER SHORT BYTES BUFFER.
-fn write_match(line: &[u8], seq: u8, address: ShortAddress, buffer: &mut [u8]) -> Written {
+fn write_match(line: &[u8], seq: u8, address: ShortAddress, buffer: &mut [u8]) -> Result<usize, Refusal> {
     let mut endpoints = [0u8; words::BYTES];
     let count = words::bytes_in(line, 3, &mut endpoints);
     match_desc_rsp(seq, address, &endpoints[0..count], buffer)
@@ -145,7 +145,7 @@ fn write_match(line: &[u8], seq: u8, address: ShortAddress, buffer: &mut [u8]) -
 
 // Writes a reply that reports an error: behind the question's name stand NUMBER REASON, then IEEE SHORT of an address reply, nothing
 // of a match reply, SHORT of the others, and BUFFER.
-fn write_error(line: &[u8], error: ErrorReply, seq: u8, buffer: &mut [u8]) -> Written {
+fn write_error(line: &[u8], error: ErrorReply, seq: u8, buffer: &mut [u8]) -> Result<usize, Refusal> {
     let why = discovery_error(words::u8_in(line, 2));
     let address = ShortAddress(words::u16_in(line, 3));
     match error {
@@ -158,7 +158,7 @@ fn write_error(line: &[u8], error: ErrorReply, seq: u8, buffer: &mut [u8]) -> Wr
 }
 
 // Writes an address reply that reports an error.
-fn write_addr_error(line: &[u8], seq: u8, why: DiscoveryError, buffer: &mut [u8]) -> Written {
+fn write_addr_error(line: &[u8], seq: u8, why: DiscoveryError, buffer: &mut [u8]) -> Result<usize, Refusal> {
     let ieee = IeeeAddress(words::hex_in(line, 3));
     addr_rsp_error(seq, why, ieee, ShortAddress(words::u16_in(line, 4)), buffer)
 }

@@ -6,10 +6,6 @@ use zdo_bind_req::descriptor::parse_bind_req;
 use zdo_leave_req::descriptor::parse_mgmt_leave_req;
 use zdo_match_req::descriptor::parse_match_desc_req;
 use zdo_requests::descriptor;
-use zdo_requests::descriptor::{
-    AddrOfInterestRead, BindReqRead, IeeeAddrReqRead, MatchDescReqRead, MgmtLeaveReqRead,
-    NwkAddrReqRead, OptionIeeeAddress,
-};
 use zigbee_types::{Places, ShortAddress};
 
 // A request that is parsed.
@@ -64,42 +60,42 @@ fn parse(line: &[u8], request: Request, text: Text) -> io::Result<Text> {
 // Puts a request for a short address, or `R`.
 fn nwk_addr(bytes: &[u8], text: Text) -> io::Result<Text> {
     match descriptor::parse_nwk_addr_req(bytes) {
-        NwkAddrReqRead::Request(request) => {
+        Ok(request) => {
             let text = out::hex_u8(text, request.seq)?;
             let text = out::byte(text, b' ')?;
             let text = out::hex_u64(text, request.ieee_addr.0)?;
             let text = out::byte(text, b' ')?;
             out::hex_u8(text, request.request_type)
         }
-        NwkAddrReqRead::Refused(_) => out::byte(text, b'R'),
+        Err(_) => out::byte(text, b'R'),
     }
 }
 
 // Puts a request for an IEEE address, or `R`.
 fn ieee_addr(bytes: &[u8], text: Text) -> io::Result<Text> {
     match descriptor::parse_ieee_addr_req(bytes) {
-        IeeeAddrReqRead::Request(request) => {
+        Ok(request) => {
             let text = out::hex_u8(text, request.seq)?;
             let text = put_u16(request.nwk_addr_of_interest.0, text)?;
             let text = out::byte(text, b' ')?;
             out::hex_u8(text, request.request_type)
         }
-        IeeeAddrReqRead::Refused(_) => out::byte(text, b'R'),
+        Err(_) => out::byte(text, b'R'),
     }
 }
 
 // Puts the address that a request is about, or `R`.
 fn addr_of_interest(bytes: &[u8], text: Text) -> io::Result<Text> {
     match descriptor::parse_addr_of_interest(bytes) {
-        AddrOfInterestRead::Address(address) => out::hex_u16(text, address.0),
-        AddrOfInterestRead::Refused(_) => out::byte(text, b'R'),
+        Ok(address) => out::hex_u16(text, address.0),
+        Err(_) => out::byte(text, b'R'),
     }
 }
 
 // Puts a match request, or `R`.
 fn match_desc(bytes: &[u8], text: Text) -> io::Result<Text> {
     match parse_match_desc_req(bytes) {
-        MatchDescReqRead::Request(request) => {
+        Ok(request) => {
             let inputs = request.input_clusters;
             let outputs = request.output_clusters;
             let text = out::hex_u8(text, request.seq)?;
@@ -110,7 +106,7 @@ fn match_desc(bytes: &[u8], text: Text) -> io::Result<Text> {
             let text = put_list(bytes, inputs, text)?;
             put_list(bytes, outputs, text)
         }
-        MatchDescReqRead::Refused(_) => out::byte(text, b'R'),
+        Err(_) => out::byte(text, b'R'),
     }
 }
 
@@ -154,21 +150,21 @@ fn put_list(bytes: &[u8], list: Places, text: Text) -> io::Result<Text> {
 // Puts a request to bind or unbind, or `R`.
 fn bind(bytes: &[u8], text: Text) -> io::Result<Text> {
     match parse_bind_req(bytes) {
-        BindReqRead::Request(request) => {
+        Ok(request) => {
             let text = out::hex_u8(text, request.seq)?;
             let text = out::byte(text, b' ')?;
             let text = out::hex_u64(text, request.src_address.0)?;
             let text = out::byte(text, b' ')?;
             bindings::put_entry(request.binding(), text)
         }
-        BindReqRead::Refused(_) => out::byte(text, b'R'),
+        Err(_) => out::byte(text, b'R'),
     }
 }
 
 // Puts a leave request, or `R`.
 fn mgmt_leave(bytes: &[u8], text: Text) -> io::Result<Text> {
     match parse_mgmt_leave_req(bytes) {
-        MgmtLeaveReqRead::Request(request) => {
+        Ok(request) => {
             let device_address = request.device_address;
             let text = out::hex_u8(text, request.seq)?;
             let text = out::byte(text, b' ')?;
@@ -178,15 +174,15 @@ fn mgmt_leave(bytes: &[u8], text: Text) -> io::Result<Text> {
             let text = out::byte(text, b' ')?;
             out::flag(text, request.rejoin)
         }
-        MgmtLeaveReqRead::Refused(_) => out::byte(text, b'R'),
+        Err(_) => out::byte(text, b'R'),
     }
 }
 
 // Puts an IEEE address, or `-` for none.
-fn put_address(address: OptionIeeeAddress, text: Text) -> io::Result<Text> {
+fn put_address(address: Option<IeeeAddress>, text: Text) -> io::Result<Text> {
     match address {
-        OptionIeeeAddress::Some(address) => out::hex_u64(text, address.0),
-        OptionIeeeAddress::None => out::byte(text, b'-'),
+        Some(address) => out::hex_u64(text, address.0),
+        None => out::byte(text, b'-'),
     }
 }
 

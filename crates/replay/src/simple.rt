@@ -4,7 +4,6 @@ use crate::words::{asks, u8_at, u16_at};
 use crate::{out, tables, words};
 use simple_descriptor::descriptor;
 use std::io;
-use zigbee_types::Written;
 
 // Puts the answer to a question about the simple descriptor, or hands the line on.
 pub(crate) fn answer(line: &[u8], text: Text) -> io::Result<Text> {
@@ -24,7 +23,7 @@ fn write(line: &[u8], text: Text) -> io::Result<Text> {
 }
 
 // Writes the endpoint with its two lists.
-fn write_endpoint(line: &[u8], buffer: &mut [u8]) -> Written {
+fn write_endpoint(line: &[u8], buffer: &mut [u8]) -> Result<usize, Refusal> {
     let word = words::word_of(line, 1);
     let mut inputs = [0u16; words::CLUSTERS];
     let input_count = words::clusters_in(line, 2, &mut inputs);

@@ -6,13 +6,13 @@ use crate::words::{u8_at, u16_at};
 use crate::{out, power, requests, words};
 use node_descriptor::descriptor::NodeDescriptorConfig;
 use std::io;
-use zdo_device::descriptor::{DeviceDescriptorConfig, EndpointDescriptor, OptionEndpoint, Side};
+use zdo_device::descriptor::{DeviceDescriptorConfig, EndpointDescriptor, Side};
 use zdo_device_rsp::descriptor::{active_ep_rsp, simple_desc_rsp};
 use zdo_lent_records::descriptor::{lend_active_ep_rsp, lend_matching_endpoints};
 use zdo_match_req::descriptor::parse_match_desc_req;
-use zdo_matching::descriptor::{Matching, matching_endpoints};
-use zdo_requests::descriptor::{MatchDescReq, MatchDescReqRead};
-use zigbee_types::{ShortAddress, Written};
+use zdo_matching::descriptor::matching_endpoints;
+use zdo_requests::descriptor::MatchDescReq;
+use zigbee_types::ShortAddress;
 
 // The most records that are lent: one more than a run may have.
 const LENT: usize = 33;
@@ -74,14 +74,14 @@ fn put_endpoint<'a>(
     let unused = unused_record(number, 0, inputs.len(), outputs.len());
     let device = device_of(words::word_of(line, 3), unused);
     match device.endpoint(number) {
-        OptionEndpoint::Some(ep) => {
+        Some(ep) => {
             let text = put_fields(ep, text)?;
             let own = device.endpoint_clusters(Side::Input, number, inputs, outputs);
             let text = put_clusters(own, text)?;
             let own = device.endpoint_clusters(Side::Output, number, inputs, outputs);
             put_clusters(own, text)
         }
-        OptionEndpoint::None => out::byte(text, b'-'),
+        None => out::byte(text, b'-'),
     }
 }
 
@@ -132,31 +132,31 @@ fn write(line: &[u8], reply: Reply, text: Text) -> io::Result<Text> {
 }
 
 // Whether two writes answered the same: as many bytes, or one refusal.
-fn is_same(a: Written, b: Written) -> bool {
+fn is_same(a: Result<usize, Refusal>, b: Result<usize, Refusal>) -> bool {
     match a {
-        Written::Length(count) => is_length(b, count),
-        Written::Refused(why) => is_refused(b, why.number()),
+        Ok(count) => is_length(b, count),
+        Err(why) => is_refused(b, why.number()),
     }
 }
 
 // Whether a write answered so many bytes.
-fn is_length(answer: Written, count: usize) -> bool {
+fn is_length(answer: Result<usize, Refusal>, count: usize) -> bool {
     match answer {
-        Written::Length(own) => own == count,
-        Written::Refused(_) => false,
+        Ok(own) => own == count,
+        Err(_) => false,
     }
 }
 
 // Whether a write answered the refusal of this number.
-fn is_refused(answer: Written, number: u8) -> bool {
+fn is_refused(answer: Result<usize, Refusal>, number: u8) -> bool {
     match answer {
-        Written::Length(_) => false,
-        Written::Refused(why) => why.number() == number,
+        Ok(_) => false,
+        Err(why) => why.number() == number,
     }
 }
 
 // Writes what is asked for from the tables. A simple reply has one form only.
-fn write_reply(line: &[u8], reply: Reply, form: Form, buffer: &mut [u8]) -> Written {
+fn write_reply(line: &[u8], reply: Reply, form: Form, buffer: &mut [u8]) -> Result<usize, Refusal> {
     let first = first_of(reply);
     let mut inputs = [0u16; words::CLUSTERS];
     let input_count = words::clusters_in(line, first, &mut inputs);
@@ -189,15 +189,15 @@ fn matching<'a>(
     inputs: &'a [u16],
     outputs: &'a [u16],
     buffer: &mut [u8],
-) -> Written {
+) -> Result<usize, Refusal> {
     let mut bytes = [0u8; words::BYTES];
     let count = words::bytes_in(line, 1, &mut bytes);
     let payload = &bytes[0..count];
     match parse_match_desc_req(payload) {
-        MatchDescReqRead::Request(request) => {
+        Ok(request) => {
             of_matching(matched(line, form, inputs, outputs, request, payload, buffer))
         }
-        MatchDescReqRead::Refused(why) => Written::Refused(why),
+        Err(why) => Err(why),
     }
 }
 
@@ -210,7 +210,7 @@ fn matched<'a>(
     request: MatchDescReq,
     payload: &[u8],
     buffer: &mut [u8],
-) -> Matching {
+) -> Result<Matched, Refusal> {
     let word = words::word_of(line, 4);
     let unused = unused_record(0xEE, request.profile_id, inputs.len(), outputs.len());
     match form {
@@ -227,10 +227,10 @@ fn matched<'a>(
 }
 
 // What a match wrote.
-fn of_matching(matching: Matching) -> Written {
+fn of_matching(matching: Result<Matched, Refusal>) -> Result<usize, Refusal> {
     match matching {
-        Matching::Matched(matched) => Written::Length(matched.written),
-        Matching::Refused(why) => Written::Refused(why),
+        Ok(matched) => Ok(matched.written),
+        Err(why) => Err(why),
     }
 }
 
@@ -241,7 +241,7 @@ fn active_ep(
     inputs: &[u16],
     outputs: &[u16],
     buffer: &mut [u8],
-) -> Written {
+) -> Result<usize, Refusal> {
     let seq = words::u8_in(line, 1);
     let address = ShortAddress(words::u16_in(line, 2));
     let word = words::word_of(line, 5);
@@ -261,7 +261,7 @@ fn simple_desc<'a>(
     inputs: &'a [u16],
     outputs: &'a [u16],
     buffer: &mut [u8],
-) -> Written {
+) -> Result<usize, Refusal> {
     let seq = words::u8_in(line, 1);
     let address = ShortAddress(words::u16_in(line, 2));
     let number = words::u8_in(line, 3);

@@ -1,4 +1,5 @@
 -- Reading: the fields in front, then what the reader of the lists said. Assumes nothing.
+use Rattle.std.specs.Prelude.{Ok}
 use Prim.Native.Nat.{ℕ, ◌%◌, ◌≤◌}
 use native.Mathlib.Omega.{arith}
 use mathlib.Core.Path.{◌≡◌}
@@ -7,16 +8,12 @@ use lib.ListN.{length}
 use Rattle.zigbee_types.specs.Outcome.{mapped}
 use Rattle.zigbee_types.specs.Bytes.{FieldRead}
 use Rattle.zigbee_types.specs.Layout.{field_of, lists_in}
-use Rattle.zigbee_types.specs.Answers.{lists_says}
-use Rattle.zigbee_types.specs.declared.Refusal.{Refusal}
+use Rattle.zigbee_types.specs.Answers.{says}
 use Rattle.zigbee_types.specs.declared.ClusterLists.{ClusterLists}
-use Rattle.zigbee_types.specs.declared.ClusterListsRead.{ClusterListsRead}
-use Rattle.zigbee_types.specs.declared.ClusterListsRead.TheVariants as lists
 use Rattle.zigbee_types.proofs.Runs.{RunRead, run_read_none, run_read_more}
 use Rattle.zigbee_types.proofs.Counted.{lists_long}
-use Rattle.simple_descriptor.specs.SimpleDescriptor.{simple_widths, simple_of, simple_descriptor_in, simple_says}
+use Rattle.simple_descriptor.specs.SimpleDescriptor.{simple_widths, simple_of, simple_descriptor_in}
 use Rattle.simple_descriptor.specs.declared.SimpleDescriptorFields.{SimpleDescriptorFields}
-use Rattle.simple_descriptor.specs.declared.SimpleDescriptorRead.TheVariants.{Descriptor, Refused}
 
 -- four fields that were read one behind the other are the descriptor's
 pub front_read :
@@ -43,21 +40,12 @@ front_read {bytes} {a = a} {b} {c} {d} lists p q r s e =
     run_read_more p (run_read_more q (run_read_more r (run_read_more s run_read_none))) in
     rw (← run.told, e)
 
-module _ (bytes : List ℕ) (read : ClusterListsRead) (said : lists_says read ≡ lists_in bytes 6) where
+module _ (bytes : List ℕ) (found : ClusterLists) (said : says (Ok found) ≡ lists_in bytes 6) where
   -- where lists were read, the fields in front are there
-  pub front_there : (found : ClusterLists) → read ≡ lists.Lists found → 6 ≤ length bytes
-  front_there found e = omega (arith, lists_long bytes 6 found (rw e at said))
+  pub front_there : 6 ≤ length bytes
+  front_there = omega (arith, lists_long bytes 6 found said)
 
   -- and with them the descriptor is read
-  pub simple_read_lem :
-      {found : ClusterLists} {d : SimpleDescriptorFields}
-      → read ≡ lists.Lists found
-      → d ≡ simple_of (field_of simple_widths bytes) found
-      → simple_says (Descriptor d) ≡ simple_descriptor_in bytes
-  unfolding lists_says mapped simple_says simple_descriptor_in
-  simple_read_lem e f = rw (← said, e, f)
-
-  -- where they were refused, so is the descriptor
-  pub simple_refused : {why : Refusal} → read ≡ lists.Refused why → simple_says (Refused why) ≡ simple_descriptor_in bytes
-  unfolding lists_says mapped simple_says simple_descriptor_in
-  simple_refused e = rw (← said, e)
+  pub simple_read_lem : {d : SimpleDescriptorFields} → d ≡ simple_of (field_of simple_widths bytes) found → says (Ok d) ≡ simple_descriptor_in bytes
+  unfolding says mapped simple_descriptor_in
+  simple_read_lem e = rw (← said, e)

@@ -1,4 +1,5 @@
 -- Writing: when a descriptor is refused, and what its fields come to. Assumes nothing.
+use Rattle.std.specs.Prelude.{Ok, Err}
 use Prim.Native.Nat.{ℕ, ◌+◌, ◌*◌, ◌%◌, ◌≤◌, ◌<◌}
 use native.Mathlib.Omega.{arith}
 use mathlib.Core.Path.{◌≡◌, refl}
@@ -9,9 +10,8 @@ use Rattle.zigbee_types.specs.Outcome.{mapped, fitted, written, Wrote}
 use Rattle.zigbee_types.specs.Bytes.{le, FieldPut}
 use Rattle.zigbee_types.specs.Layout.{laid, size, FieldsPut, listed}
 use Rattle.zigbee_types.specs.FieldLaws.{widths}
-use Rattle.zigbee_types.specs.Answers.{written_says}
+use Rattle.zigbee_types.specs.Answers.{says}
 use Rattle.zigbee_types.specs.declared.Refusal.TheVariants.{TooManyClusters, ShortBuffer}
-use Rattle.zigbee_types.specs.declared.Written.TheVariants.{Length, Refused}
 use Rattle.zigbee_types.proofs.Layouts.{laid_counted, length_listed}
 use Rattle.zigbee_types.proofs.Runs.{laid_append, run_put_one, run_put_more, run_put_both, run_writes, run_full}
 use Rattle.simple_descriptor.specs.SimpleDescriptor.{Endpoint, simple_header, simple_descriptor_of, cluster_count, simple_written}
@@ -42,16 +42,16 @@ module _ (e : Endpoint) (s : List ℕ) where
   -- refused where the clusters are too many
   pub simple_many :
       28 < length e.input_clusters + length e.output_clusters
-      → Wrote (simple_written e) s (written_says (Refused TooManyClusters)) s
-  unfolding simple_written cluster_count written_says mapped fitted written
+      → Wrote (simple_written e) s (says (Err TooManyClusters)) s
+  unfolding simple_written cluster_count says mapped fitted written
   simple_many h = record { said = rw (lt-leb _ _ h); left = rw (lt-leb _ _ h) }
 
   module _ (few : length e.input_clusters + length e.output_clusters ≤ 28) where
     -- and where the buffer is too short
     pub simple_full :
         length s < 8 + 2 * (length e.input_clusters + length e.output_clusters)
-        → Wrote (simple_written e) s (written_says (Refused ShortBuffer)) s
-    unfolding simple_written cluster_count written_says
+        → Wrote (simple_written e) s (says (Err ShortBuffer)) s
+    unfolding simple_written cluster_count says
     simple_full h = rw (le-leb _ _ few) (run_full (simple_descriptor_of e) s (rw simple_size h))
 
     -- otherwise the fields in front, inputs and outputs are the descriptor
@@ -61,8 +61,8 @@ module _ (e : Endpoint) (s : List ℕ) where
         → FieldsPut (simple_header e) s 0 m t
         → FieldsPut (listed 2 e.input_clusters) t m n u
         → FieldsPut (listed 2 e.output_clusters) u n k v
-        → Wrote (simple_written e) s (written_says (Length k)) v
-    unfolding simple_written cluster_count simple_descriptor_of written_says
+        → Wrote (simple_written e) s (says (Ok k)) v
+    unfolding simple_written cluster_count simple_descriptor_of says
     simple_writes h p q r = rw (le-leb _ _ few) (run_writes (run_put_both (run_put_both p q) r) (rw simple_size h))
 
 -- the fields in front

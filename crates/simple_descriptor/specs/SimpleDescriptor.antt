@@ -1,12 +1,11 @@
 -- The simple descriptor (2.3.2.5): what one endpoint is, and its clusters (document 01, module 4).
-use Rattle.std.specs.Prelude.{ℕ, ◌+◌, ◌%◌, cond, List, [], ◌∷◌, ◌++◌, leb, length}
+use Rattle.std.specs.Prelude.{ℕ, ◌+◌, ◌%◌, cond, List, [], ◌∷◌, ◌++◌, leb, length, Result, Ok, Err}
+use Rattle.zigbee_types.specs.declared.Refusal.{Refusal}
 use Rattle.zigbee_types.specs.Outcome.{Outcome, answer, refusal, mapped}
 use Rattle.zigbee_types.specs.Refusals.{refusal_number}
 use Rattle.zigbee_types.specs.Layout.{Field, byte, word, laid, field_of, listed, entries_at, lists_in}
 use Rattle.zigbee_types.specs.declared.ClusterLists.{ClusterLists}
 use Rattle.simple_descriptor.specs.declared.SimpleDescriptorFields.{SimpleDescriptorFields}
-use Rattle.simple_descriptor.specs.declared.SimpleDescriptorRead.{SimpleDescriptorRead}
-use Rattle.simple_descriptor.specs.declared.SimpleDescriptorRead.TheVariants.{Descriptor, Refused}
 
 -- an endpoint with its two lists of clusters
 pub record Endpoint : Type 0 where
@@ -69,11 +68,6 @@ simple_of field lists =
 -- refusal 3 where the bytes end before the outputs do
 unfoldable pub simple_descriptor_in : List ℕ → Outcome SimpleDescriptorFields
 simple_descriptor_in bytes = mapped (simple_of (field_of simple_widths bytes)) (lists_in bytes 6)
-
--- what the reader's answer says
-unfoldable pub simple_says : SimpleDescriptorRead → Outcome SimpleDescriptorFields
-simple_says (Descriptor d) = answer d
-simple_says (Refused why) = refusal (refusal_number why)
 
 -- what a descriptor that was read from bytes says, its lists taken from them
 unfoldable pub simple_fields : List ℕ → SimpleDescriptorFields → Endpoint

@@ -1,12 +1,12 @@
 // The writer of a simple descriptor (000, `EndpointDescriptor::write`; 2.3.2.5).
 ghost use Rattle.std.specs.Prelude.{◌+◌, ◌*◌, ◌≤◌, length};
 ghost use Rattle.zigbee_types.specs.Outcome.{Wrote};
-ghost use Rattle.zigbee_types.specs.Answers.{written_says};
+ghost use Rattle.zigbee_types.specs.Answers.{says};
 ghost use Rattle.zigbee_types.specs.Layout.{FieldsPut, listed};
 ghost use Rattle.simple_descriptor.specs.SimpleDescriptor.{endpoint_with, simple_written};
 
 use byte::{nibble, write_u8, write_u16};
-use zigbee_types::{Refusal, Written};
+use zigbee_types::Refusal;
 
 // The most clusters of a descriptor that is written (document 01, refusal 4).
 const CLUSTERS: usize = 28;
@@ -21,15 +21,15 @@ pub fn write(
     input_clusters: &[u16],
     output_clusters: &[u16],
     out: &mut [u8],
-) -> Written
-    ensures { Wrote (simple_written (endpoint_with endpoint profile_id device_id device_version input_clusters.now output_clusters.now)) out.old (written_says result) out.new }
+) -> Result<usize, Refusal>
+    ensures { Wrote (simple_written (endpoint_with endpoint profile_id device_id device_version input_clusters.now output_clusters.now)) out.old (says result) out.new }
 {
     let count = input_clusters.len() + output_clusters.len();
     if count > CLUSTERS {
-        return Written::Refused(Refusal::TooManyClusters);
+        return Err(Refusal::TooManyClusters);
     }
     if out.len() < 8 + 2 * count {
-        return Written::Refused(Refusal::ShortBuffer);
+        return Err(Refusal::ShortBuffer);
     }
     let at = write_u8(out, 0, endpoint);
     let at = write_u16(out, at, profile_id);
@@ -37,7 +37,7 @@ pub fn write(
     let at = write_u8(out, at, nibble(device_version));
     let at = write_clusters(out, at, input_clusters);
     let at = write_clusters(out, at, output_clusters);
-    Written::Length(at)
+    Ok(at)
 }
 
 // Puts a list of clusters at a place: how many, then two bytes each.

@@ -5,10 +5,11 @@ pub mod descriptor;
 
 ghost use Rattle.std.specs.Prelude.{◌≡◌, ◌≤◌, length};
 ghost use Rattle.zigbee_types.specs.Layout.{field_of};
-ghost use Rattle.simple_descriptor.specs.SimpleDescriptor.{simple_widths, simple_of, simple_descriptor_in, simple_says};
+ghost use Rattle.simple_descriptor.specs.SimpleDescriptor.{simple_widths, simple_of, simple_descriptor_in};
+ghost use Rattle.zigbee_types.specs.Answers.{says};
 
 use byte::{nibble, read_u8, read_u16};
-use zigbee_types::{ClusterLists, ClusterListsRead, Places, Refusal};
+use zigbee_types::{ClusterLists, Places, Refusal};
 
 // A simple descriptor's fields, its two cluster lists as places in the bytes that it was read from.
 #[derive(Clone, Copy)]
@@ -21,25 +22,13 @@ pub struct SimpleDescriptorFields {
     pub output_clusters: Places,
 }
 
-// A simple descriptor that was read, or why none was.
-#[derive(Clone, Copy)]
-pub enum SimpleDescriptorRead {
-    Descriptor(SimpleDescriptorFields),
-    Refused(Refusal),
-}
-
 impl SimpleDescriptorFields {
     // Reads the descriptor at the front of bytes, two for each cluster (2.3.2.5).
-    pub fn try_read(bytes: &[u8]) -> SimpleDescriptorRead
-        ensures { simple_says result ≡ simple_descriptor_in bytes.now }
+    pub fn try_read(bytes: &[u8]) -> Result<SimpleDescriptorFields, Refusal>
+        ensures { says result ≡ simple_descriptor_in bytes.now }
     {
-        let read = cluster_lists::try_read(bytes, 6);
-        match read {
-            ClusterListsRead::Lists(lists) => SimpleDescriptorRead::Descriptor(
-                SimpleDescriptorFields::read(bytes, lists),
-            ),
-            ClusterListsRead::Refused(why) => SimpleDescriptorRead::Refused(why),
-        }
+        let lists = cluster_lists::try_read(bytes, 6)?;
+        Ok(SimpleDescriptorFields::read(bytes, lists))
     }
 
     // The descriptor that has these lists, its other fields read from before them.

@@ -1,14 +1,14 @@
 // Address replies (000).
 ghost use Rattle.std.specs.Prelude.{◌≤◌, length};
 ghost use Rattle.zigbee_types.specs.Outcome.{Wrote};
-ghost use Rattle.zigbee_types.specs.Answers.{written_says};
+ghost use Rattle.zigbee_types.specs.Answers.{says};
 ghost use Rattle.zigbee_types.specs.Layout.{FieldsPut};
 ghost use Rattle.zdo_replies.specs.Codes.{discovery_code};
 ghost use Rattle.zdo_replies.specs.Replies.{addr_header, addr_rsp_single, addr_rsp};
 
 use byte::{write_u8, write_u16, write_u64};
 use zdo_replies::descriptor::{DiscoveryError, STATUS_SUCCESS};
-use zigbee_types::{IeeeAddress, Refusal, ShortAddress, Written};
+use zigbee_types::{IeeeAddress, Refusal, ShortAddress};
 
 // Puts at the front of a buffer what an address reply begins with: seq, status, IEEEAddrRemoteDev, NWKAddrRemoteDev.
 fn write_addr_header(
@@ -34,14 +34,14 @@ fn addr_rsp_single(
     ieee_addr: IeeeAddress,
     nwk_addr: ShortAddress,
     out: &mut [u8],
-) -> Written
-    ensures { Wrote (addr_rsp_single seq status ieee_addr nwk_addr) out.old (written_says result) out.new }
+) -> Result<usize, Refusal>
+    ensures { Wrote (addr_rsp_single seq status ieee_addr nwk_addr) out.old (says result) out.new }
 {
     if out.len() < 12 {
-        return Written::Refused(Refusal::ShortBuffer);
+        return Err(Refusal::ShortBuffer);
     }
     let at = write_addr_header(out, seq, status, ieee_addr, nwk_addr);
-    Written::Length(at)
+    Ok(at)
 }
 
 // Builds a NWK_addr_rsp or IEEE_addr_rsp (2.4.4.2.1, 2.4.4.2.2). An extended response adds NumAssocDev and StartIndex; this
@@ -53,20 +53,20 @@ pub fn addr_rsp(
     nwk_addr: ShortAddress,
     extended: bool,
     out: &mut [u8],
-) -> Written
-    ensures { Wrote (addr_rsp seq ieee_addr nwk_addr extended) out.old (written_says result) out.new }
+) -> Result<usize, Refusal>
+    ensures { Wrote (addr_rsp seq ieee_addr nwk_addr extended) out.old (says result) out.new }
 {
     if !extended {
         return addr_rsp_single(seq, STATUS_SUCCESS, ieee_addr, nwk_addr, out);
     }
     if out.len() < 14 {
-        return Written::Refused(Refusal::ShortBuffer);
+        return Err(Refusal::ShortBuffer);
     }
     let at = write_addr_header(out, seq, STATUS_SUCCESS, ieee_addr, nwk_addr);
     // NumAssocDev, StartIndex; the device list is empty
     let at = write_u8(out, at, 0);
     let at = write_u8(out, at, 0);
-    Written::Length(at)
+    Ok(at)
 }
 
 // Builds a NWK_addr_rsp or IEEE_addr_rsp reporting an error (2.4.4.2.1, 2.4.4.2.2): the associated-device fields are omitted, the echoed
@@ -77,8 +77,8 @@ pub fn addr_rsp_error(
     ieee_addr: IeeeAddress,
     nwk_addr: ShortAddress,
     out: &mut [u8],
-) -> Written
-    ensures { Wrote (addr_rsp_single seq (discovery_code error) ieee_addr nwk_addr) out.old (written_says result) out.new }
+) -> Result<usize, Refusal>
+    ensures { Wrote (addr_rsp_single seq (discovery_code error) ieee_addr nwk_addr) out.old (says result) out.new }
 {
     addr_rsp_single(seq, error.code(), ieee_addr, nwk_addr, out)
 }

@@ -1,4 +1,5 @@
 -- A bind request: the fields in front, then a destination by its mode. Assumes nothing.
+use Rattle.std.specs.Prelude.{Result, Ok, Err}
 use Prim.Native.Nat.{ℕ, ◌+◌, ◌≤◌, ◌<◌}
 use native.Mathlib.Omega.{arith}
 use mathlib.Core.Path.{◌≡◌}
@@ -14,28 +15,24 @@ use Rattle.zigbee_types.proofs.Fields.{number_at_past}
 use Rattle.zigbee_types.proofs.Runs.{RunRead, run_read_none, run_read_more}
 use Rattle.aps_binding.specs.Entry.{GROUP, DEVICE}
 use Rattle.zdo_requests.specs.Requests.{group_in, device_in, destination_in, bind_widths, bind_req_of, bind_req_in}
-use Rattle.zdo_requests.specs.Answers.{bind_req_says}
+use Rattle.zigbee_types.specs.Answers.{says}
 use Rattle.zdo_requests.specs.declared.descriptor.BindReqDestination.{BindReqDestination}
 use Rattle.zdo_requests.specs.declared.descriptor.BindReqDestination.TheVariants.{Group, Device}
-use Rattle.zdo_requests.specs.declared.descriptor.BindReqRead.TheVariants as bind
-use Rattle.zdo_bind_req.specs.Answers.{destination_says}
-use Rattle.zdo_bind_req.specs.declared.descriptor.DestinationRead.{DestinationRead}
-use Rattle.zdo_bind_req.specs.declared.descriptor.DestinationRead.TheVariants as destination
 
 module _ (bytes : List ℕ) (at : ℕ) where
   -- too few bytes for a group, or for a device
-  pub group_short : length bytes < at + 2 → destination_says (destination.Refused Malformed) ≡ group_in bytes at
-  unfolding destination_says group_in needing
+  pub group_short : length bytes < at + 2 → says (Err Malformed) ≡ group_in bytes at
+  unfolding says group_in needing
   group_short h = rw (lt-leb _ _ h)
 
-  pub device_short : length bytes < at + 9 → destination_says (destination.Refused Malformed) ≡ device_in bytes at
-  unfolding destination_says device_in needing
+  pub device_short : length bytes < at + 9 → says (Err Malformed) ≡ device_in bytes at
+  unfolding says device_in needing
   device_short h = rw (lt-leb _ _ h)
 
   -- a group that was read
   pub group_read :
-      {v j : ℕ} → at + 2 ≤ length bytes → FieldRead 2 bytes at v j → destination_says (destination.Destination (Group (group_of v))) ≡ group_in bytes at
-  unfolding destination_says group_in needing
+      {v j : ℕ} → at + 2 ≤ length bytes → FieldRead 2 bytes at v j → says (Ok (Group (group_of v))) ≡ group_in bytes at
+  unfolding says group_in needing
   group_read h p = rw (le-leb _ _ h, p.told)
 
   -- a device that was read
@@ -44,17 +41,17 @@ module _ (bytes : List ℕ) (at : ℕ) where
       → at + 9 ≤ length bytes
       → FieldRead 8 bytes at v j
       → FieldRead 1 bytes j w k
-      → destination_says (destination.Destination (Device (ieee_of v) w)) ≡ device_in bytes at
-  unfolding destination_says device_in needing
+      → says (Ok (Device (ieee_of v) w)) ≡ device_in bytes at
+  unfolding says device_in needing
   device_read h p q = rw (le-leb _ _ h, p.told, q.told, p.moved)
 
   -- which it is, by the mode
-  module _ {mode next : ℕ} (r : DestinationRead) (p : FieldRead 1 bytes at mode next) where
-    pub mode_group : mode ≡ GROUP → destination_says r ≡ group_in bytes next → destination_says r ≡ destination_in bytes at
+  module _ {mode next : ℕ} (r : Result BindReqDestination Refusal) (p : FieldRead 1 bytes at mode next) where
+    pub mode_group : mode ≡ GROUP → says r ≡ group_in bytes next → says r ≡ destination_in bytes at
     unfolding destination_in
     mode_group e said = rw (said, p.moved, ← p.told, e)
 
-    pub mode_device : mode ≡ DEVICE → destination_says r ≡ device_in bytes next → destination_says r ≡ destination_in bytes at
+    pub mode_device : mode ≡ DEVICE → says r ≡ device_in bytes next → says r ≡ destination_in bytes at
     unfolding destination_in
     mode_device e said = rw (said, p.moved, ← p.told, e)
 
@@ -63,38 +60,38 @@ module _ (bytes : List ℕ) (at : ℕ) where
       → FieldRead 1 bytes at mode next
       → (mode ≡ GROUP → ⊥)
       → (mode ≡ DEVICE → ⊥)
-      → destination_says (destination.Refused Malformed) ≡ destination_in bytes at
-  unfolding destination_says destination_in
+      → says (Err Malformed) ≡ destination_in bytes at
+  unfolding says destination_in
   mode_other p e f = rw (← p.told, ne_eqb _ _ e, ne_eqb _ _ f)
 
 -- too few bytes for a mode
-pub bind_short : (bytes : List ℕ) → length bytes < 13 → bind_req_says (bind.Refused Malformed) ≡ bind_req_in bytes
-unfolding bind_req_says bind_req_in destination_in mapped
+pub bind_short : (bytes : List ℕ) → length bytes < 13 → says (Err Malformed) ≡ bind_req_in bytes
+unfolding says bind_req_in destination_in mapped
 bind_short bytes h = rw (number_at_past 1 bytes 12 (omega arith))
 
 -- the fields in front, and what the reader of the destination behind them said
 module _
-    {bytes : List ℕ} {u v w x i j k l : ℕ} (read : DestinationRead)
+    {bytes : List ℕ} {u v w x i j k l : ℕ} (read : Result BindReqDestination Refusal)
     (p : FieldRead 1 bytes 0 u i)
     (q : FieldRead 8 bytes i v j)
     (r : FieldRead 1 bytes j w k)
     (s : FieldRead 2 bytes k x l)
-    (said : destination_says read ≡ destination_in bytes l) where
-  behind : destination_in bytes 12 ≡ destination_says read
+    (said : says read ≡ destination_in bytes l) where
+  behind : destination_in bytes 12 ≡ says read
   behind = let place : l ≡ 12 = omega (arith, p.moved, q.moved, r.moved, s.moved) in rw (said, place)
 
   pub bind_read :
       {d : BindReqDestination}
-      → read ≡ destination.Destination d
-      → bind_req_says
-      (bind.Request (record { seq = u; src_address = ieee_of v; src_endpoint = w; cluster_id = x; destination = d }))
+      → read ≡ Ok d
+      → says
+      (Ok (record { seq = u; src_address = ieee_of v; src_endpoint = w; cluster_id = x; destination = d }))
       ≡ bind_req_in bytes
-  unfolding bind_req_says bind_req_in bind_widths bind_req_of mapped destination_says
+  unfolding says bind_req_in bind_widths bind_req_of mapped
   bind_read e =
       let run : RunRead bind_widths bytes 0 (u ∷ v ∷ w ∷ x ∷ []) =
       run_read_more p (run_read_more q (run_read_more r (run_read_more s run_read_none))) in
       rw (behind, e, ← run.told)
 
-  pub bind_refused : {why : Refusal} → read ≡ destination.Refused why → bind_req_says (bind.Refused why) ≡ bind_req_in bytes
-  unfolding bind_req_says bind_req_in mapped destination_says
+  pub bind_refused : {why : Refusal} → read ≡ Err why → says (Err why) ≡ bind_req_in bytes
+  unfolding says bind_req_in mapped
   bind_refused e = rw (behind, e)

@@ -1,49 +1,38 @@
 // Bind and unbind requests as they are parsed (000).
 ghost use Rattle.std.specs.Prelude.{◌≡◌, ◌+◌, ◌≤◌, length};
 ghost use Rattle.zdo_requests.specs.Requests.{group_in, device_in, destination_in, bind_req_in};
-ghost use Rattle.zdo_requests.specs.Answers.{bind_req_says};
-ghost use Rattle.zdo_bind_req.specs.Answers.{destination_says};
+ghost use Rattle.zigbee_types.specs.Answers.{says};
 
 use aps_binding::binding::Binding;
 use byte::{read_u8, read_u16, read_u64};
-use zdo_requests::descriptor::{BindReq, BindReqDestination, BindReqRead};
+use zdo_requests::descriptor::{BindReq, BindReqDestination};
 use zigbee_types::{GroupAddress, IeeeAddress, Refusal};
 
-// The destination of a bind request, or why there is none.
-#[derive(Clone, Copy)]
-enum DestinationRead {
-    Destination(BindReqDestination),
-    Refused(Refusal),
-}
-
 // Parses a Bind_req or Unbind_req (2.4.3.2.2, 2.4.3.2.3): seq, SrcAddress(8), SrcEndp(1), ClusterID(2), then the destination.
-pub fn parse_bind_req(asdu: &[u8]) -> BindReqRead
-    ensures { bind_req_says result ≡ bind_req_in asdu.now }
+pub fn parse_bind_req(asdu: &[u8]) -> Result<BindReq, Refusal>
+    ensures { says result ≡ bind_req_in asdu.now }
 {
     if asdu.len() < 13 {
-        return BindReqRead::Refused(Refusal::Malformed);
+        return Err(Refusal::Malformed);
     }
     let seq = read_u8(asdu, 0);
     let src_address = read_u64(asdu, seq.next);
     let src_endpoint = read_u8(asdu, src_address.next);
     let cluster_id = read_u16(asdu, src_endpoint.next);
-    let read = read_destination(asdu, cluster_id.next);
-    match read {
-        DestinationRead::Destination(destination) => BindReqRead::Request(BindReq {
-            seq: seq.value,
-            src_address: IeeeAddress(src_address.value),
-            src_endpoint: src_endpoint.value,
-            cluster_id: cluster_id.value,
-            destination,
-        }),
-        DestinationRead::Refused(why) => BindReqRead::Refused(why),
-    }
+    let destination = read_destination(asdu, cluster_id.next)?;
+    Ok(BindReq {
+        seq: seq.value,
+        src_address: IeeeAddress(src_address.value),
+        src_endpoint: src_endpoint.value,
+        cluster_id: cluster_id.value,
+        destination,
+    })
 }
 
 // The destination of a bind request at a place (2.4.3.2.2): DstAddrMode(1), DstAddress(2 or 8), DstEndp(0 or 1).
-fn read_destination(asdu: &[u8], at: usize) -> DestinationRead
+fn read_destination(asdu: &[u8], at: usize) -> Result<BindReqDestination, Refusal>
     requires { at + 1 ≤ length asdu.now }
-    ensures { destination_says result ≡ destination_in asdu.now at }
+    ensures { says result ≡ destination_in asdu.now at }
 {
     let dst_addr_mode = read_u8(asdu, at);
     if dst_addr_mode.value == Binding::GROUP {
@@ -52,32 +41,32 @@ fn read_destination(asdu: &[u8], at: usize) -> DestinationRead
     if dst_addr_mode.value == Binding::DEVICE {
         return read_device(asdu, dst_addr_mode.next);
     }
-    DestinationRead::Refused(Refusal::Malformed)
+    Err(Refusal::Malformed)
 }
 
 // The 16-bit group address at a place.
-fn read_group(asdu: &[u8], at: usize) -> DestinationRead
+fn read_group(asdu: &[u8], at: usize) -> Result<BindReqDestination, Refusal>
     requires { at ≤ length asdu.now }
-    ensures { destination_says result ≡ group_in asdu.now at }
+    ensures { says result ≡ group_in asdu.now at }
 {
     if asdu.len() < at + 2 {
-        return DestinationRead::Refused(Refusal::Malformed);
+        return Err(Refusal::Malformed);
     }
     let group = read_u16(asdu, at);
-    DestinationRead::Destination(BindReqDestination::Group(GroupAddress(group.value)))
+    Ok(BindReqDestination::Group(GroupAddress(group.value)))
 }
 
 // The 64-bit address at a place, and the endpoint behind it.
-fn read_device(asdu: &[u8], at: usize) -> DestinationRead
+fn read_device(asdu: &[u8], at: usize) -> Result<BindReqDestination, Refusal>
     requires { at ≤ length asdu.now }
-    ensures { destination_says result ≡ device_in asdu.now at }
+    ensures { says result ≡ device_in asdu.now at }
 {
     if asdu.len() < at + 9 {
-        return DestinationRead::Refused(Refusal::Malformed);
+        return Err(Refusal::Malformed);
     }
     let ieee = read_u64(asdu, at);
     let endpoint = read_u8(asdu, ieee.next);
-    DestinationRead::Destination(BindReqDestination::Device {
+    Ok(BindReqDestination::Device {
         ieee: IeeeAddress(ieee.value),
         endpoint: endpoint.value,
     })

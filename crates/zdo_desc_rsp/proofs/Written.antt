@@ -1,4 +1,5 @@
 -- Replies with a header, and what stands behind it. Assumes nothing.
+use Rattle.std.specs.Prelude.{Result, Ok, Err}
 use Prim.Native.Nat.{ℕ, ◌+◌, ◌-◌, ◌^◌, ◌≤◌, ◌<◌}
 use native.Mathlib.Omega.{arith}
 use mathlib.Core.Path.{◌≡◌}
@@ -11,7 +12,7 @@ use mir.Val.{Fits}
 use borrow.Author.Tests.{lt-leb}
 use borrow.Rule.Slice.PartMut.{mid_of, put_mid}
 use Rattle.zigbee_types.specs.Outcome.{Outcome, answer, refusal, mapped, fitted, Wrote}
-use Rattle.zigbee_types.specs.Answers.{written_says}
+use Rattle.zigbee_types.specs.Answers.{says}
 use Rattle.zigbee_types.specs.Bytes.{le, FieldPut}
 use Rattle.zigbee_types.specs.Layout.{Field, laid, size, FieldsPut}
 use Rattle.zigbee_types.specs.FieldLaws.{widths}
@@ -19,8 +20,6 @@ use Rattle.zigbee_types.specs.Statuses.{SUCCESS}
 use Rattle.zigbee_types.specs.declared.Refusal.{Refusal}
 use Rattle.zigbee_types.specs.declared.Refusal.TheVariants.{ShortBuffer}
 use Rattle.zigbee_types.specs.declared.ShortAddress.{ShortAddress}
-use Rattle.zigbee_types.specs.declared.Written.{Written}
-use Rattle.zigbee_types.specs.declared.Written.TheVariants.{Length, Refused}
 use Rattle.zigbee_types.proofs.Layouts.{laid_counted}
 use Rattle.zigbee_types.proofs.Outcomes.{wrote_bytes}
 use Rattle.zigbee_types.proofs.Parts.{part_told, part_put}
@@ -36,14 +35,14 @@ module _ (seq status : ℕ) (a : ShortAddress) {s t : List ℕ} {m : ℕ} (p : F
   header_place = p.moved
 
   -- nothing: an error of node or power
-  pub error_writes : 4 ≤ length s → Wrote (descriptor_rsp_error seq status a) s (written_says (Length m)) t
-  unfolding descriptor_rsp_error written_says header size
+  pub error_writes : 4 ≤ length s → Wrote (descriptor_rsp_error seq status a) s (says (Ok m)) t
+  unfolding descriptor_rsp_error says header size
   error_writes h = run_writes p h
 
   -- a zero: an error of active or simple
   pub empty_writes :
-      {n : ℕ} {u : List ℕ} → FieldPut 1 0 t m n u → 5 ≤ length s → Wrote (empty_rsp seq status a) s (written_says (Length n)) u
-  unfolding empty_rsp written_says header size
+      {n : ℕ} {u : List ℕ} → FieldPut 1 0 t m n u → 5 ≤ length s → Wrote (empty_rsp seq status a) s (says (Ok n)) u
+  unfolding empty_rsp says header size
   empty_writes q h = run_writes (run_put_last p q) h
 
 -- an error of node or power: refused where there is no room for it
@@ -55,35 +54,35 @@ error_cut seq status a n h =
 
 -- where the writer of the later part told a length, the sum is one that the machine has
 pub whole_fits :
-    (m : ℕ) (r : Written) {n : ℕ} → ((k : ℕ) → written_says r ≡ answer k → m + k < 2 ^ 64) → r ≡ Length n → Fits w64 (m + n)
-unfolding written_says
+    (m : ℕ) (r : Result ℕ Refusal) {n : ℕ} → ((k : ℕ) → says r ≡ answer k → m + k < 2 ^ 64) → r ≡ Ok n → Fits w64 (m + n)
+unfolding says
 whole_fits m r {n} small e = record { fits = small n (rw e) }
 
 -- it is told, and a refusal stays
-module _ (m : ℕ) (r : Written) where
-  pub whole_length : {n : ℕ} → r ≡ Length n → written_says (Length (m + n)) ≡ mapped (λ n. m + n) (written_says r)
-  unfolding written_says mapped
+module _ (m : ℕ) (r : Result ℕ Refusal) where
+  pub whole_length : {n : ℕ} → r ≡ Ok n → says (Ok (m + n)) ≡ mapped (λ n. m + n) (says r)
+  unfolding says mapped
   whole_length e = rw e
 
-  pub whole_refused : {why : Refusal} → r ≡ Refused why → written_says (Refused why) ≡ mapped (λ n. m + n) (written_says r)
-  unfolding written_says mapped
+  pub whole_refused : {why : Refusal} → r ≡ Err why → says (Err why) ≡ mapped (λ n. m + n) (says r)
+  unfolding says mapped
   whole_refused e = rw e
 
 -- a descriptor: refused where there is no room for it
 pub described_full :
     (seq : ℕ) (a : ShortAddress) (fs : List Field) (s : List ℕ)
     → length s < 4 + size (widths fs)
-    → Wrote (answer (laid (header seq SUCCESS a ++ fs))) s (written_says (Refused ShortBuffer)) s
-unfolding written_says header size
+    → Wrote (answer (laid (header seq SUCCESS a ++ fs))) s (says (Err ShortBuffer)) s
+unfolding says header size
 described_full seq a fs s h = run_full (header seq SUCCESS a ++ fs) s (omega (arith, h))
 
 -- a length that the descriptor's writer tells is one that the machine has behind the header
 pub described_told :
-    (fs : List Field) {m : ℕ} {part v : List ℕ} (r : Written)
+    (fs : List Field) {m : ℕ} {part v : List ℕ} (r : Result ℕ Refusal)
     → m ≡ 4
-    → Wrote (answer (laid fs)) part (written_says r) v
+    → Wrote (answer (laid fs)) part (says r) v
     → T (ltb (4 + size (widths fs)) (2 ^ 64))
-    → (n : ℕ) → written_says r ≡ answer n → m + n < 2 ^ 64
+    → (n : ℕ) → says r ≡ answer n → m + n < 2 ^ 64
 described_told fs {m} r place w h n e =
     let stands = wrote_bytes (rw e at w) in
     let sum : m + n ≡ 4 + size (widths fs) = omega (arith, place, stands.long, laid_counted fs) in
@@ -96,9 +95,9 @@ module _
     (fs : List Field)
     {s t v : List ℕ}
     {k m : ℕ}
-    (r : Written)
+    (r : Result ℕ Refusal)
     (p : FieldsPut (header seq SUCCESS a) s 0 m t)
-    (w : Wrote (answer (laid fs)) (mid_of k (length t - k) t) (written_says r) v)
+    (w : Wrote (answer (laid fs)) (mid_of k (length t - k) t) (says r) v)
     (place : k ≡ 4)
     (room : 4 + size (widths fs) ≤ length s) where
   fits : k + length (laid fs) ≤ length t
@@ -106,7 +105,7 @@ module _
       let same : length t ≡ length s = rw p.left (length-sets s 0 (laid (header seq SUCCESS a))) in
       omega (arith, place, laid_counted fs)
 
-  told : written_says r ≡ answer (length (laid fs))
+  told : says r ≡ answer (length (laid fs))
   told = part_told k t (laid fs) fits w
 
   here : m ≡ k
@@ -115,7 +114,7 @@ module _
   -- and the reply is the header and the descriptor
   pub described_writes :
       {q : Outcome ℕ}
-      → q ≡ mapped (λ n. m + n) (written_says r)
+      → q ≡ mapped (λ n. m + n) (says r)
       → Wrote (answer (laid (header seq SUCCESS a ++ fs))) s q (put_mid k (length t - k) t v)
   unfolding header size mapped
   described_writes {q} e =

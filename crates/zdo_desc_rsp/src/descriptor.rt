@@ -1,7 +1,7 @@
 // Node and power replies, and the errors of these, of active and of simple (000).
 ghost use Rattle.std.specs.Prelude.{◌≡◌, ℕ, ◌+◌, ◌^◌, ◌<◌, ◌≤◌, length};
 ghost use Rattle.zigbee_types.specs.Outcome.{answer, mapped, Wrote};
-ghost use Rattle.zigbee_types.specs.Answers.{written_says};
+ghost use Rattle.zigbee_types.specs.Answers.{says};
 ghost use Rattle.zigbee_types.specs.Layout.{FieldsPut};
 ghost use Rattle.zdo_replies.specs.Codes.{discovery_code};
 ghost use Rattle.zdo_replies.specs.Replies.{header, node_desc_rsp, power_desc_rsp, descriptor_rsp_error, empty_rsp};
@@ -10,7 +10,7 @@ use byte::{write_u8, write_u16};
 use node_descriptor::descriptor::NodeDescriptorConfig;
 use node_power_descriptor::descriptor::PowerDescriptorConfig;
 use zdo_replies::descriptor::{DiscoveryError, STATUS_SUCCESS};
-use zigbee_types::{Refusal, ShortAddress, Written};
+use zigbee_types::{Refusal, ShortAddress};
 
 // ---- node and power
 
@@ -26,13 +26,13 @@ pub fn write_header(out: &mut [u8], seq: u8, status: u8, nwk_addr: ShortAddress)
 }
 
 // What a reply comes to whose later part, from a place on, came to `written`: the length of the whole.
-fn whole(at: usize, written: Written) -> Written
-    requires { (n : ℕ) → written_says written ≡ answer n → at + n < 2 ^ 64 }
-    ensures { written_says result ≡ mapped (λ n. at + n) (written_says written) }
+fn whole(at: usize, written: Result<usize, Refusal>) -> Result<usize, Refusal>
+    requires { (n : ℕ) → says written ≡ answer n → at + n < 2 ^ 64 }
+    ensures { says result ≡ mapped (λ n. at + n) (says written) }
 {
     match written {
-        Written::Length(n) => Written::Length(at + n),
-        Written::Refused(why) => Written::Refused(why),
+        Ok(n) => Ok(at + n),
+        Err(why) => Err(why),
     }
 }
 
@@ -43,11 +43,11 @@ pub fn node_desc_rsp(
     seq: u8,
     nwk_addr: ShortAddress,
     out: &mut [u8],
-) -> Written
-    ensures { Wrote (node_desc_rsp seq nwk_addr node) out.old (written_says result) out.new }
+) -> Result<usize, Refusal>
+    ensures { Wrote (node_desc_rsp seq nwk_addr node) out.old (says result) out.new }
 {
     if out.len() < 17 {
-        return Written::Refused(Refusal::ShortBuffer);
+        return Err(Refusal::ShortBuffer);
     }
     let at = write_header(out, seq, STATUS_SUCCESS, nwk_addr);
     let written = node.write(&mut out[at..]);
@@ -60,11 +60,11 @@ pub fn power_desc_rsp(
     seq: u8,
     nwk_addr: ShortAddress,
     out: &mut [u8],
-) -> Written
-    ensures { Wrote (power_desc_rsp seq nwk_addr power) out.old (written_says result) out.new }
+) -> Result<usize, Refusal>
+    ensures { Wrote (power_desc_rsp seq nwk_addr power) out.old (says result) out.new }
 {
     if out.len() < 6 {
-        return Written::Refused(Refusal::ShortBuffer);
+        return Err(Refusal::ShortBuffer);
     }
     let at = write_header(out, seq, STATUS_SUCCESS, nwk_addr);
     let written = power.write(&mut out[at..]);
@@ -73,34 +73,34 @@ pub fn power_desc_rsp(
 
 // Builds a Node_Desc_rsp or Power_Desc_rsp reporting an error (2.4.4.2.3, 2.4.4.2.4): seq, status, NWKAddrOfInterest; the
 // descriptor is only present on success.
-#[tactic(auto, using(crate::proofs::Written::error_cut), unfolding(zigbee_types::specs::Outcome::mapped, zigbee_types::specs::Outcome::written, zigbee_types::specs::Answers::written_says))]
+#[tactic(auto, using(crate::proofs::Written::error_cut), unfolding(zigbee_types::specs::Outcome::mapped, zigbee_types::specs::Outcome::written, zigbee_types::specs::Answers::says))]
 pub fn descriptor_rsp_error(
     seq: u8,
     error: DiscoveryError,
     nwk_addr_of_interest: ShortAddress,
     out: &mut [u8],
-) -> Written
-    ensures { Wrote (descriptor_rsp_error seq (discovery_code error) nwk_addr_of_interest) out.old (written_says result) out.new }
+) -> Result<usize, Refusal>
+    ensures { Wrote (descriptor_rsp_error seq (discovery_code error) nwk_addr_of_interest) out.old (says result) out.new }
 {
     if out.len() < 4 {
-        return Written::Refused(Refusal::ShortBuffer);
+        return Err(Refusal::ShortBuffer);
     }
     let at = write_header(out, seq, error.code(), nwk_addr_of_interest);
-    Written::Length(at)
+    Ok(at)
 }
 
 // ---- active and simple
 
 // Builds a reply that carries a zero in place of its list or descriptor.
-pub fn empty_rsp(seq: u8, status: u8, nwk_addr: ShortAddress, out: &mut [u8]) -> Written
-    ensures { Wrote (empty_rsp seq status nwk_addr) out.old (written_says result) out.new }
+pub fn empty_rsp(seq: u8, status: u8, nwk_addr: ShortAddress, out: &mut [u8]) -> Result<usize, Refusal>
+    ensures { Wrote (empty_rsp seq status nwk_addr) out.old (says result) out.new }
 {
     if out.len() < 5 {
-        return Written::Refused(Refusal::ShortBuffer);
+        return Err(Refusal::ShortBuffer);
     }
     let at = write_header(out, seq, status, nwk_addr);
     let at = write_u8(out, at, 0);
-    Written::Length(at)
+    Ok(at)
 }
 
 // Builds an Active_EP_rsp reporting an error (2.4.4.2.6), which carries a zero endpoint count in place of the endpoint list.
@@ -109,8 +109,8 @@ pub fn active_ep_rsp_error(
     error: DiscoveryError,
     nwk_addr_of_interest: ShortAddress,
     out: &mut [u8],
-) -> Written
-    ensures { Wrote (empty_rsp seq (discovery_code error) nwk_addr_of_interest) out.old (written_says result) out.new }
+) -> Result<usize, Refusal>
+    ensures { Wrote (empty_rsp seq (discovery_code error) nwk_addr_of_interest) out.old (says result) out.new }
 {
     empty_rsp(seq, error.code(), nwk_addr_of_interest, out)
 }
@@ -121,8 +121,8 @@ pub fn simple_desc_rsp_error(
     error: DiscoveryError,
     nwk_addr_of_interest: ShortAddress,
     out: &mut [u8],
-) -> Written
-    ensures { Wrote (empty_rsp seq (discovery_code error) nwk_addr_of_interest) out.old (written_says result) out.new }
+) -> Result<usize, Refusal>
+    ensures { Wrote (empty_rsp seq (discovery_code error) nwk_addr_of_interest) out.old (says result) out.new }
 {
     empty_rsp(seq, error.code(), nwk_addr_of_interest, out)
 }

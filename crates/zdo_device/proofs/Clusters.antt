@@ -1,4 +1,5 @@
 -- A record's parts of the two pools, and the part that an endpoint number has. Assumes nothing.
+use Rattle.std.specs.Prelude.{Option, Some, None}
 use Prim.Native.Nat.{ℕ, ◌+◌, ◌≤◌}
 use mathlib.Core.Path.{◌≡◌}
 use mathlib.Core.Bool.{Bool, true, false, not, and-eq-true_iff}
@@ -8,11 +9,9 @@ use lib.ListN.{length}
 use borrow.Author.Tests.{leb-true}
 use Rattle.zigbee_types.specs.Lists.{part, option}
 use Rattle.zigbee_types.proofs.Scans.{said_no, said_yes}
-use Rattle.zdo_device.specs.Tables.{Pools, endpoint_record, endpoint_says, supports_endpoint, record_fits, good_device, endpoint_of, clusters_of, endpoint_clusters}
+use Rattle.zdo_device.specs.Tables.{Pools, endpoint_record, supports_endpoint, record_fits, good_device, endpoint_of, clusters_of, endpoint_clusters}
 use Rattle.zdo_device.specs.declared.descriptor.EndpointDescriptor.{EndpointDescriptor}
 use Rattle.zdo_device.specs.declared.descriptor.DeviceDescriptorConfig.{DeviceDescriptorConfig}
-use Rattle.zdo_device.specs.declared.descriptor.OptionEndpoint.{OptionEndpoint}
-use Rattle.zdo_device.specs.declared.descriptor.OptionEndpoint.TheVariants.{Some, None}
 use Rattle.zdo_device.specs.declared.descriptor.Side.{Side}
 use Rattle.zdo_device.specs.declared.descriptor.Side.TheVariants.{Input, Output}
 
@@ -45,7 +44,7 @@ module _ (p : Pools) (d : DeviceDescriptorConfig) (s : Side) (n : ℕ) (t : Bool
   unfolding endpoint_clusters
   clusters_bad bad = rw (said_no is bad)
 
-  module _ (fine : not t ≡ false) {q : OptionEndpoint} (f : endpoint_says q ≡ endpoint_record d n) where
+  module _ (fine : not t ≡ false) {q : Option EndpointDescriptor} (f : endpoint_says q ≡ endpoint_record d n) where
     -- none, where there is no record
     pub clusters_none : q ≡ None → [] ≡ endpoint_clusters p d s n
     unfolding endpoint_clusters option endpoint_says
@@ -57,7 +56,7 @@ module _ (p : Pools) (d : DeviceDescriptorConfig) (s : Side) (n : ℕ) (t : Bool
     clusters_found e h = rw (said_yes is fine, ← f, e) h
 
 -- a number is supported where a record is found
-module _ (d : DeviceDescriptorConfig) (n : ℕ) {q : OptionEndpoint} (f : endpoint_says q ≡ endpoint_record d n) where
+module _ (d : DeviceDescriptorConfig) (n : ℕ) {q : Option EndpointDescriptor} (f : endpoint_says q ≡ endpoint_record d n) where
   pub supports_some : {e : EndpointDescriptor} → q ≡ Some e → true ≡ supports_endpoint d n
   unfolding supports_endpoint option endpoint_says
   supports_some e = rw (← f, e)

@@ -1,4 +1,5 @@
 -- The records in use, for a loop that goes through them, and what a check of them says. Assumes nothing.
+use Rattle.std.specs.Prelude.{Option, Some, None}
 use Prim.Native.Nat.{ℕ, ◌+◌, ◌≤◌, ◌<◌, min}
 use native.Mathlib.Numerals.{add-one}
 use native.Mathlib.Omega.{arith}
@@ -12,11 +13,9 @@ use borrow.Author.Tests.{eq-eqb, ne_eqb, leb-true, le-leb}
 use Rattle.zigbee_types.specs.Lists.{all, find}
 use Rattle.zigbee_types.proofs.Elements.{front_next}
 use Rattle.zigbee_types.proofs.Scans.{all_left, all_here, all_next, all_end, find_here, find_next, find_end, find_all, said_no, said_yes}
-use Rattle.zdo_device.specs.Tables.{Pools, used, endpoint_record, endpoint_says, record_fits, good_sizes, good_records, good_device}
+use Rattle.zdo_device.specs.Tables.{Pools, used, endpoint_record, record_fits, good_sizes, good_records, good_device}
 use Rattle.zdo_device.specs.declared.descriptor.EndpointDescriptor.{EndpointDescriptor}
 use Rattle.zdo_device.specs.declared.descriptor.DeviceDescriptorConfig.{DeviceDescriptorConfig}
-use Rattle.zdo_device.specs.declared.descriptor.OptionEndpoint.{OptionEndpoint}
-use Rattle.zdo_device.specs.declared.descriptor.OptionEndpoint.TheVariants.{Some, None}
 
 module _ (d : DeviceDescriptorConfig) where
   -- there are as many as the count says, and at most the thirty-two
@@ -186,6 +185,6 @@ module _ (p : Pools) (d : DeviceDescriptorConfig) (g : good_device p d ≡ true)
 
   -- and so does the one that is found
   pub good_found :
-      (number : ℕ) {q : OptionEndpoint} {e : EndpointDescriptor} → q ≡ Some e → endpoint_says q ≡ endpoint_record d number → record_fits p e ≡ true
+      (number : ℕ) {q : Option EndpointDescriptor} {e : EndpointDescriptor} → q ≡ Some e → endpoint_says q ≡ endpoint_record d number → record_fits p e ≡ true
   unfolding endpoint_says endpoint_record
   good_found number is f = find_all _ (record_fits p) (used d) good_fit (sym (rw is at f))

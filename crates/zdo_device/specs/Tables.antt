@@ -1,13 +1,10 @@
 -- Device tables: endpoint records, and the two pools of clusters that they point into (document 01, "Device tables and
 -- sizes").
-use Rattle.std.specs.Prelude.{ℕ, ◌+◌, Bool, true, false, ◌&&◌, cond, List, [], map, eqb, leb, length, take}
-use Rattle.std.proofs.Math.Option.{Option, none, some}
+use Rattle.std.specs.Prelude.{ℕ, ◌+◌, Bool, true, false, ◌&&◌, cond, List, [], map, eqb, leb, length, take, Option, Some, None}
 use Rattle.zigbee_types.specs.Lists.{part, all, find, option}
 use Rattle.simple_descriptor.specs.SimpleDescriptor.{Endpoint, endpoint_with}
 use Rattle.zdo_device.specs.declared.descriptor.EndpointDescriptor.{EndpointDescriptor}
 use Rattle.zdo_device.specs.declared.descriptor.DeviceDescriptorConfig.{DeviceDescriptorConfig}
-use Rattle.zdo_device.specs.declared.descriptor.OptionEndpoint.{OptionEndpoint}
-use Rattle.zdo_device.specs.declared.descriptor.OptionEndpoint.TheVariants.{Some, None}
 use Rattle.zdo_device.specs.declared.descriptor.Side.{Side}
 use Rattle.zdo_device.specs.declared.descriptor.Side.TheVariants.{Input, Output}
 
@@ -26,14 +23,9 @@ pools inputs outputs = record { inputs = inputs; outputs = outputs }
 unfoldable pub used : DeviceDescriptorConfig → List EndpointDescriptor
 used d = take d.endpoint_count d.endpoints
 
--- `endpoint`: the first record in use that has a number, or none; it refuses nothing
+-- `endpoint`: the first record in use that has a number, or None; it refuses nothing
 unfoldable pub endpoint_record : DeviceDescriptorConfig → ℕ → Option EndpointDescriptor
 endpoint_record d n = find (λ e. eqb e.endpoint n) (used d)
-
--- what `endpoint` answers: a record, or none
-unfoldable pub endpoint_says : OptionEndpoint → Option EndpointDescriptor
-endpoint_says (Some e) = some e
-endpoint_says None = none
 
 -- `supports_endpoint`: is there one?
 unfoldable pub supports_endpoint : DeviceDescriptorConfig → ℕ → Bool

@@ -1,7 +1,7 @@
 // The descriptors this device advertises to the network (000).
 ghost use Rattle.std.specs.Prelude.{◌+◌, ◌≤◌, ◌<◌, min, ◌≡◌, true, length};
 ghost use Rattle.zigbee_types.specs.Lists.{part};
-ghost use Rattle.zdo_device.specs.Tables.{pools, endpoint_record, endpoint_says, supports_endpoint, record_fits, good_sizes, good_device, endpoint_of, clusters_of, endpoint_clusters};
+ghost use Rattle.zdo_device.specs.Tables.{pools, endpoint_record, supports_endpoint, record_fits, good_sizes, good_device, endpoint_of, clusters_of, endpoint_clusters};
 
 use node_descriptor::descriptor::NodeDescriptorConfig;
 use node_power_descriptor::descriptor::PowerDescriptorConfig;
@@ -55,28 +55,21 @@ pub struct DeviceDescriptorConfig {
     pub endpoint_count: usize,
 }
 
-// The record of an endpoint, or none.
-#[derive(Clone, Copy)]
-pub enum OptionEndpoint {
-    Some(EndpointDescriptor),
-    None,
-}
-
 impl DeviceDescriptorConfig {
     // The first record in use that has a number, or none. A count above 32 reaches all 32 records, here and in the next.
-    pub fn endpoint(self, endpoint: u8) -> OptionEndpoint
-        ensures { endpoint_says result ≡ endpoint_record self endpoint }
+    pub fn endpoint(self, endpoint: u8) -> Option<EndpointDescriptor>
+        ensures { result ≡ endpoint_record self endpoint }
     {
         let count = in_use(self.endpoint_count);
         let mut i: usize = 0;
         while i < count {
             let ep = self.endpoints[i];
             if ep.endpoint == endpoint {
-                return OptionEndpoint::Some(ep);
+                return Some(ep);
             }
             i += 1;
         }
-        OptionEndpoint::None
+        None
     }
 
     // Whether the device implements the given endpoint.
@@ -85,8 +78,8 @@ impl DeviceDescriptorConfig {
     {
         let found = self.endpoint(endpoint);
         match found {
-            OptionEndpoint::Some(_) => true,
-            OptionEndpoint::None => false,
+            Some(_) => true,
+            None => false,
         }
     }
 
@@ -125,8 +118,8 @@ impl DeviceDescriptorConfig {
         }
         let found = self.endpoint(endpoint);
         match found {
-            OptionEndpoint::Some(ep) => ep.clusters(side, inputs, outputs),
-            OptionEndpoint::None => &inputs[..0],
+            Some(ep) => ep.clusters(side, inputs, outputs),
+            None => &inputs[..0],
         }
     }
 }

@@ -1,4 +1,5 @@
 -- The active reply: a header, how many records there are, and their numbers. Assumes nothing.
+use Rattle.std.specs.Prelude.{Result, Ok, Err}
 use Prim.Native.Nat.{ℕ, ◌+◌, ◌≤◌, ◌<◌, min}
 use native.Mathlib.Numerals.{add-one}
 use native.Mathlib.Omega.{arith}
@@ -10,7 +11,7 @@ use lib.ListN.{length, get_or, take, length-map}
 use lib.Seq.{length-sets, take_all, take-suc, length-take-le}
 use borrow.Author.Tests.{leb-true, leb-false, le-leb, lt-leb}
 use Rattle.zigbee_types.specs.Outcome.{answer, refusal, mapped, fitted, written, Wrote}
-use Rattle.zigbee_types.specs.Answers.{written_says}
+use Rattle.zigbee_types.specs.Answers.{says}
 use Rattle.zigbee_types.specs.Bytes.{FieldPut}
 use Rattle.zigbee_types.specs.Layout.{byte, laid, size, FieldsPut}
 use Rattle.zigbee_types.specs.FieldLaws.{widths}
@@ -18,8 +19,6 @@ use Rattle.zigbee_types.specs.Statuses.{SUCCESS}
 use Rattle.zigbee_types.specs.declared.Refusal.{Refusal}
 use Rattle.zigbee_types.specs.declared.Refusal.TheVariants.{BadTables, ShortBuffer}
 use Rattle.zigbee_types.specs.declared.ShortAddress.{ShortAddress}
-use Rattle.zigbee_types.specs.declared.Written.{Written}
-use Rattle.zigbee_types.specs.declared.Written.TheVariants.{Length, Refused}
 use Rattle.zigbee_types.proofs.Layouts.{laid_counted, size_entries}
 use Rattle.zigbee_types.proofs.Outcomes.{refused, wrote_refused, stored_front, wrote_bytes}
 use Rattle.zigbee_types.proofs.Fields.{put_counted}
@@ -41,14 +40,14 @@ module _ (seq : ℕ) (a : ShortAddress) (count : ℕ) (before : List ℕ) where
   begun_size = refl
 
   -- refusal 1
-  pub begun_many : 32 < count → Wrote (active_begun seq a count (length before)) before (written_says (Refused BadTables)) before
-  unfolding active_begun written_says
+  pub begun_many : 32 < count → Wrote (active_begun seq a count (length before)) before (says (Err BadTables)) before
+  unfolding active_begun says
   begun_many h = rw (lt-leb _ _ h) (wrote_refused 1 before)
 
   module _ (few : count ≤ 32) where
     -- refusal 5
-    pub begun_full : length before < 5 + count → Wrote (active_begun seq a count (length before)) before (written_says (Refused ShortBuffer)) before
-    unfolding active_begun written_says
+    pub begun_full : length before < 5 + count → Wrote (active_begun seq a count (length before)) before (says (Err ShortBuffer)) before
+    unfolding active_begun says
     begun_full h = rw (le-leb _ _ few, lt-leb _ _ h) (wrote_refused 5 before)
 
     -- otherwise header and count
@@ -57,8 +56,8 @@ module _ (seq : ℕ) (a : ShortAddress) (count : ℕ) (before : List ℕ) where
         → 5 + count ≤ length before
         → FieldsPut (header seq SUCCESS a) before 0 m t
         → FieldPut 1 count t m n u
-        → Wrote (active_begun seq a count (length before)) before (written_says (Length n)) u
-    unfolding active_begun written_says
+        → Wrote (active_begun seq a count (length before)) before (says (Ok n)) u
+    unfolding active_begun says
     begun_writes h p q = rw (le-leb _ _ few, le-leb _ _ h) (run_writes (run_put_last p q) (rw begun_size (omega arith)))
 
   -- a length was told, so both stand there, with room for the list
@@ -98,7 +97,7 @@ module _ (seq : ℕ) (a : ShortAddress) (count : ℕ) (before : List ℕ) where
       → (count ≤ 32 → length records ≡ count)
       → Wrote (active_begun seq a count (length before)) before (refusal n) after
       → Wrote (cond (leb count 32) (active_rsp_of seq a records) (refusal 1)) before (refusal n) after
-  unfolding active_begun active_rsp_of numbers mapped fitted written written_says
+  unfolding active_begun active_rsp_of numbers mapped fitted written says
   begun_refused records {n} {after} counted w = go (leb count 32) (leb (5 + count) (length before)) refl refl
     where
       go : (t u : Bool) → leb count 32 ≡ t → leb (5 + count) (length before) ≡ u → Wrote (cond (leb count 32) (active_rsp_of seq a records) (refusal 1)) before (refusal n) after
@@ -150,8 +149,8 @@ module _ {records : List EndpointDescriptor} {i from at : ℕ} {s t : List ℕ} 
       → length records ≡ count
       → Wrote (active_begun seq a count (length before)) before (answer from) s
       → length records ≤ i
-      → Wrote (cond (leb count 32) (active_rsp_of seq a records) (refusal 1)) before (written_says (Length at)) t
-  unfolding active_rsp_of list_rsp endpoint_list written_says numbers header size
+      → Wrote (cond (leb count 32) (active_rsp_of seq a records) (refusal 1)) before (says (Ok at)) t
+  unfolding active_rsp_of list_rsp endpoint_list says numbers header size
   listed_end seq a count {before} counted w h =
       let o = begun_opened seq a count before w in
       let all : take i records ≡ records = take_all i records h in
@@ -175,15 +174,15 @@ pub record ListedUsed (d : DeviceDescriptorConfig) (n i : ℕ) (s : List ℕ) (f
   pub same : length t ≡ length s
   pub listed : Listed (used d) i s from at t
 
-module _ (seq : ℕ) (a : ShortAddress) (d : DeviceDescriptorConfig) (long : length d.endpoints ≡ 32) (r : Written) {before after : List ℕ} (w : Wrote (active_begun seq a d.endpoint_count (length before)) before (written_says r) after) where
+module _ (seq : ℕ) (a : ShortAddress) (d : DeviceDescriptorConfig) (long : length d.endpoints ≡ 32) (r : Result ℕ Refusal) {before after : List ℕ} (w : Wrote (active_begun seq a d.endpoint_count (length before)) before (says r) after) where
   -- refused as the beginning is
-  pub used_refused : {why : Refusal} → r ≡ Refused why → Wrote (active_ep_rsp seq a d) before (written_says (Refused why)) after
-  unfolding written_says
+  pub used_refused : {why : Refusal} → r ≡ Err why → Wrote (active_ep_rsp seq a d) before (says (Err why)) after
+  unfolding says
   used_refused is = rw (active_checked seq a d) (begun_refused seq a d.endpoint_count before (used d) (used_few d long) (rw is at w))
 
-  module _ {from : ℕ} (is : r ≡ Length from) where
+  module _ {from : ℕ} (is : r ≡ Ok from) where
     begun : Wrote (active_begun seq a d.endpoint_count (length before)) before (answer from) after
-    unfolding written_says
+    unfolding says
     begun = rw is at w
 
     -- of none, behind the beginning
@@ -194,7 +193,7 @@ module _ (seq : ℕ) (a : ShortAddress) (d : DeviceDescriptorConfig) (long : len
         record { here = at_first long (omega (arith, o.few)); same = refl; listed = listed_first (used d) (rw counted (omega (arith, begun_room seq a d.endpoint_count before begun))) }
 
     -- of all of them
-    pub used_writes : {n i at : ℕ} {t : List ℕ} → ListedUsed d n i after from at t → n ≤ i → Wrote (active_ep_rsp seq a d) before (written_says (Length at)) t
+    pub used_writes : {n i at : ℕ} {t : List ℕ} → ListedUsed d n i after from at t → n ≤ i → Wrote (active_ep_rsp seq a d) before (says (Ok at)) t
     used_writes u h =
         let o = begun_opened seq a d.endpoint_count before begun in
         rw (active_checked seq a d) (listed_end u.listed seq a d.endpoint_count (used_few d long o.few) begun (rw u.here.counted h))

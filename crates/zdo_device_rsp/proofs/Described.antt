@@ -1,4 +1,5 @@
 -- The simple reply: the descriptor is written into a scratch, and then handed on as a list of bytes. Assumes nothing.
+use Rattle.std.specs.Prelude.{Option, Some, None, Result, Ok, Err}
 use Prim.Native.Nat.{ℕ, ◌%◌, ◌/◌, ◌≤◌, ◌<◌, min, zero, suc}
 use native.Mathlib.Nat.{mod-eq_of_lt}
 use native.Mathlib.Omega.{arith}
@@ -10,7 +11,7 @@ use lib.ListN.{length, take, drop, length-take}
 use lib.Seq.{take_at}
 use borrow.Author.Tests.{leb-true, le-leb}
 use Rattle.zigbee_types.specs.Outcome.{Outcome, answer, and_then, mapped, fitted, written, Wrote}
-use Rattle.zigbee_types.specs.Answers.{written_says}
+use Rattle.zigbee_types.specs.Answers.{says}
 use Rattle.zigbee_types.specs.Bytes.{le}
 use Rattle.zigbee_types.specs.Layout.{Field, byte, laid}
 use Rattle.zigbee_types.specs.Lists.{option}
@@ -18,8 +19,6 @@ use Rattle.zigbee_types.specs.Statuses.{SUCCESS, NOT_ACTIVE}
 use Rattle.zigbee_types.specs.declared.Refusal.{Refusal}
 use Rattle.zigbee_types.specs.declared.Refusal.TheVariants.{BadTables}
 use Rattle.zigbee_types.specs.declared.ShortAddress.{ShortAddress}
-use Rattle.zigbee_types.specs.declared.Written.{Written}
-use Rattle.zigbee_types.specs.declared.Written.TheVariants.{Length, Refused}
 use Rattle.zigbee_types.proofs.Outcomes.{refused, granted, wrote_refused, wrote_answer}
 use Rattle.zigbee_types.proofs.Outcomes as outcomes
 use Rattle.zigbee_types.proofs.Runs.{laid_append}
@@ -27,11 +26,9 @@ use Rattle.zigbee_types.proofs.Scans.{said_no, said_yes}
 use Rattle.simple_descriptor.specs.SimpleDescriptor.{Endpoint, endpoint_with, simple_descriptor_of, cluster_count, simple_written}
 use Rattle.simple_descriptor.proofs.Written.{simple_length}
 use Rattle.zdo_replies.specs.Replies.{header, endpoint_list, list_rsp, empty_rsp, described_rsp}
-use Rattle.zdo_device.specs.Tables.{Pools, endpoint_record, endpoint_says, good_device, endpoint_of, clusters_of}
+use Rattle.zdo_device.specs.Tables.{Pools, endpoint_record, good_device, endpoint_of, clusters_of}
 use Rattle.zdo_device.specs.declared.descriptor.EndpointDescriptor.{EndpointDescriptor}
 use Rattle.zdo_device.specs.declared.descriptor.DeviceDescriptorConfig.{DeviceDescriptorConfig}
-use Rattle.zdo_device.specs.declared.descriptor.OptionEndpoint.{OptionEndpoint}
-use Rattle.zdo_device.specs.declared.descriptor.OptionEndpoint.TheVariants.{Some, None}
 use Rattle.zdo_device.specs.declared.descriptor.Side.TheVariants.{Input, Output}
 use Rattle.zdo_device_rsp.specs.TableReplies.{simple_rsp_of, simple_desc_rsp}
 
@@ -85,11 +82,11 @@ stands_in {e} {bytes} {before} {after} {n} told there =
 
 -- a writer that told a length left it there
 pub desc_stands :
-    (e : Endpoint) {before after : List ℕ} {r : Written} {n : ℕ}
-    → Wrote (simple_written e) before (written_says r) after
-    → r ≡ Length n
+    (e : Endpoint) {before after : List ℕ} {r : Result ℕ Refusal} {n : ℕ}
+    → Wrote (simple_written e) before (says r) after
+    → r ≡ Ok n
     → Stands e n after
-unfolding written_says
+unfolding says
 desc_stands e w is = let (bytes, told, there) = wrote_answer (simple_written e) (rw is at w) in stands_in told there
 
 module _ {e : Endpoint} {n : ℕ} {scratch : List ℕ} (s : Stands e n scratch) where
@@ -115,15 +112,15 @@ module _ (seq : ℕ) (a : ShortAddress) (e : Endpoint) where
 
   -- where a writer with room for 64 bytes refused, so is the reply, and by the same number
   pub desc_refused :
-      {before after : List ℕ} {r : Written} {why : Refusal} (out : List ℕ)
-      → Wrote (simple_written e) before (written_says r) after
-      → r ≡ Refused why
+      {before after : List ℕ} {r : Result ℕ Refusal} {why : Refusal} (out : List ℕ)
+      → Wrote (simple_written e) before (says r) after
+      → r ≡ Err why
       → 64 ≤ length before
-      → Wrote (described_rsp seq a e) out (written_says (Refused why)) out
-  unfolding written_says simple_written described_rsp and_then mapped fitted written
+      → Wrote (described_rsp seq a e) out (says (Err why)) out
+  unfolding says simple_written described_rsp and_then mapped fitted written
   desc_refused {before} {after} {r} {why} out w is room = go (leb (cluster_count e) 28) refl
     where
-      go : (few : Bool) → leb (cluster_count e) 28 ≡ few → Wrote (described_rsp seq a e) out (written_says (Refused why)) out
+      go : (few : Bool) → leb (cluster_count e) 28 ≡ few → Wrote (described_rsp seq a e) out (says (Err why)) out
       go true t =
           let short = leb-true (cluster_count e) 28 t in
           let fits : length (laid (simple_descriptor_of e)) ≤ length before = omega (arith, simple_length e) in
@@ -143,7 +140,7 @@ unfolding clusters_of endpoint_of
 own_written p e ins outs w = rw (ins, outs) at w
 
 module _ (seq : ℕ) (a : ShortAddress) (p : Pools) (d : DeviceDescriptorConfig) (n : ℕ) {before after : List ℕ} {told : Outcome ℕ} where
-  module _ {q : OptionEndpoint} (f : endpoint_says q ≡ endpoint_record d n) where
+  module _ {q : Option EndpointDescriptor} (f : endpoint_says q ≡ endpoint_record d n) where
     -- the first record with the number answers
     pub simple_found :
         {e : EndpointDescriptor}
@@ -173,6 +170,6 @@ pub simple_bad :
     (seq : ℕ) (a : ShortAddress) (p : Pools) (d : DeviceDescriptorConfig) (n : ℕ) (out : List ℕ) {t : Bool}
     → t ≡ good_device p d
     → not t ≡ true
-    → Wrote (simple_desc_rsp seq a p d n) out (written_says (Refused BadTables)) out
-unfolding simple_desc_rsp written_says
+    → Wrote (simple_desc_rsp seq a p d n) out (says (Err BadTables)) out
+unfolding simple_desc_rsp says
 simple_bad seq a p d n out is bad = rw (said_no is bad) (wrote_refused 1 out)

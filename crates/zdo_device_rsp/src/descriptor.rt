@@ -1,7 +1,7 @@
 // Active and simple replies (000).
 ghost use Rattle.std.specs.Prelude.{◌≡◌, true, length};
 ghost use Rattle.zigbee_types.specs.Outcome.{Wrote};
-ghost use Rattle.zigbee_types.specs.Answers.{written_says};
+ghost use Rattle.zigbee_types.specs.Answers.{says};
 ghost use Rattle.simple_descriptor.specs.SimpleDescriptor.{simple_written};
 ghost use Rattle.zdo_replies.specs.Replies.{described_rsp};
 ghost use Rattle.zdo_device.specs.Tables.{pools, record_fits, good_device, endpoint_of};
@@ -10,10 +10,10 @@ ghost use Rattle.zdo_device_rsp.specs.TableReplies.{active_begun, active_ep_rsp,
 use byte::write_u8;
 use simple_descriptor::descriptor::write;
 use zdo_desc_rsp::descriptor::{empty_rsp, write_header};
-use zdo_device::descriptor::{DeviceDescriptorConfig, EndpointDescriptor, OptionEndpoint, Side};
+use zdo_device::descriptor::{DeviceDescriptorConfig, EndpointDescriptor, Side};
 use zdo_match_rsp::descriptor::list_rsp;
 use zdo_replies::descriptor::{STATUS_NOT_ACTIVE, STATUS_SUCCESS};
-use zigbee_types::{Refusal, ShortAddress, Written};
+use zigbee_types::{Refusal, ShortAddress};
 
 // Builds an Active_EP_rsp (2.4.4.2.6): seq, status, NWKAddrOfInterest, endpoint count and list. A count above 32 is refused, and then
 // too short a buffer; nothing is written in either case.
@@ -22,40 +22,35 @@ pub fn active_ep_rsp(
     seq: u8,
     nwk_addr: ShortAddress,
     out: &mut [u8],
-) -> Written
-    ensures { Wrote (active_ep_rsp seq nwk_addr device) out.old (written_says result) out.new }
+) -> Result<usize, Refusal>
+    ensures { Wrote (active_ep_rsp seq nwk_addr device) out.old (says result) out.new }
 {
     let count = device.endpoint_count;
-    let begun = begin_active_ep_rsp(count, seq, nwk_addr, out);
-    match begun {
-        Written::Length(at) => {
-            let mut at = at;
-            let mut i: usize = 0;
-            while i < count {
-                let ep = device.endpoints[i];
-                at = write_u8(out, at, ep.endpoint);
-                i += 1;
-            }
-            Written::Length(at)
+    let at = begin_active_ep_rsp(count, seq, nwk_addr, out)?;
+        let mut at = at;
+        let mut i: usize = 0;
+        while i < count {
+            let ep = device.endpoints[i];
+            at = write_u8(out, at, ep.endpoint);
+            i += 1;
         }
-        Written::Refused(why) => Written::Refused(why),
-    }
+        Ok(at)
 }
 
 // Begins an Active_EP_rsp (2.4.4.2.6) of so many endpoints: what stands before the list. A count above 32 is refused, and then a buffer too short
 // for the whole reply; nothing is written in either case.
-pub fn begin_active_ep_rsp(count: usize, seq: u8, nwk_addr: ShortAddress, out: &mut [u8]) -> Written
-    ensures { Wrote (active_begun seq nwk_addr count (length out.old)) out.old (written_says result) out.new }
+pub fn begin_active_ep_rsp(count: usize, seq: u8, nwk_addr: ShortAddress, out: &mut [u8]) -> Result<usize, Refusal>
+    ensures { Wrote (active_begun seq nwk_addr count (length out.old)) out.old (says result) out.new }
 {
     if count > 32 {
-        return Written::Refused(Refusal::BadTables);
+        return Err(Refusal::BadTables);
     }
     if out.len() < 5 + count {
-        return Written::Refused(Refusal::ShortBuffer);
+        return Err(Refusal::ShortBuffer);
     }
     let at = write_header(out, seq, STATUS_SUCCESS, nwk_addr);
     let at = write_u8(out, at, count as u8);
-    Written::Length(at)
+    Ok(at)
 }
 
 // Builds a Simple_Desc_rsp (2.4.4.2.5): seq, status, NWKAddrOfInterest, length, simple descriptor. An unknown endpoint yields
@@ -69,11 +64,11 @@ pub fn simple_desc_rsp<'a>(
     inputs: &'a [u16],
     outputs: &'a [u16],
     out: &mut [u8],
-) -> Written
-    ensures { Wrote (simple_desc_rsp seq nwk_addr (pools inputs.now outputs.now) device endpoint) out.old (written_says result) out.new }
+) -> Result<usize, Refusal>
+    ensures { Wrote (simple_desc_rsp seq nwk_addr (pools inputs.now outputs.now) device endpoint) out.old (says result) out.new }
 {
     if !device.good_tables(inputs, outputs) {
-        return Written::Refused(Refusal::BadTables);
+        return Err(Refusal::BadTables);
     }
     simple_desc_rsp_checked(device, seq, nwk_addr, endpoint, inputs, outputs, out)
 }
@@ -87,14 +82,14 @@ pub fn simple_desc_rsp_checked<'a>(
     inputs: &'a [u16],
     outputs: &'a [u16],
     out: &mut [u8],
-) -> Written
+) -> Result<usize, Refusal>
     requires { good_device (pools inputs.now outputs.now) device ≡ true }
-    ensures { Wrote (simple_rsp_of seq nwk_addr (pools inputs.now outputs.now) device endpoint) out.old (written_says result) out.new }
+    ensures { Wrote (simple_rsp_of seq nwk_addr (pools inputs.now outputs.now) device endpoint) out.old (says result) out.new }
 {
     let found = device.endpoint(endpoint);
     match found {
-        OptionEndpoint::Some(ep) => described_rsp(ep, seq, nwk_addr, inputs, outputs, out),
-        OptionEndpoint::None => empty_rsp(seq, STATUS_NOT_ACTIVE, nwk_addr, out),
+        Some(ep) => described_rsp(ep, seq, nwk_addr, inputs, outputs, out),
+        None => empty_rsp(seq, STATUS_NOT_ACTIVE, nwk_addr, out),
     }
 }
 
@@ -106,16 +101,13 @@ fn described_rsp<'a>(
     inputs: &'a [u16],
     outputs: &'a [u16],
     out: &mut [u8],
-) -> Written
+) -> Result<usize, Refusal>
     requires { record_fits (pools inputs.now outputs.now) ep ≡ true }
-    ensures { Wrote (described_rsp seq nwk_addr (endpoint_of (pools inputs.now outputs.now) ep)) out.old (written_says result) out.new }
+    ensures { Wrote (described_rsp seq nwk_addr (endpoint_of (pools inputs.now outputs.now) ep)) out.old (says result) out.new }
 {
     let mut desc = [0u8; 64];
-    let written = write_record(ep, inputs, outputs, &mut desc);
-    match written {
-        Written::Length(len) => list_rsp(seq, nwk_addr, &desc[..len], out),
-        Written::Refused(why) => Written::Refused(why),
-    }
+    let len = write_record(ep, inputs, outputs, &mut desc)?;
+    list_rsp(seq, nwk_addr, &desc[..len], out)
 }
 
 // Writes the simple descriptor of a record (2.3.2.5) at the front of a buffer: its fields, and its parts of the two pools.
@@ -124,9 +116,9 @@ fn write_record<'a>(
     inputs: &'a [u16],
     outputs: &'a [u16],
     out: &mut [u8],
-) -> Written
+) -> Result<usize, Refusal>
     requires { record_fits (pools inputs.now outputs.now) ep ≡ true }
-    ensures { Wrote (simple_written (endpoint_of (pools inputs.now outputs.now) ep)) out.old (written_says result) out.new }
+    ensures { Wrote (simple_written (endpoint_of (pools inputs.now outputs.now) ep)) out.old (says result) out.new }
 {
     let input_clusters = ep.clusters(Side::Input, inputs, outputs);
     let output_clusters = ep.clusters(Side::Output, inputs, outputs);

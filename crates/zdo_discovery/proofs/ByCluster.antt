@@ -1,4 +1,5 @@
 -- Discovery by the cluster. Assumes nothing.
+use Rattle.std.specs.Prelude.{Err}
 use Prim.Native.Nat.{ℕ, ◌<◌}
 use native.Mathlib.Omega.{arith}
 use mathlib.Core.Path.{◌≡◌, refl}
@@ -7,9 +8,8 @@ use mathlib.Core.List.{List, [], ◌∷◌}
 use lib.Dec.{eqb}
 use borrow.Author.Tests.{eqb-true, ne_eqb}
 use Rattle.zigbee_types.specs.Outcome.{Outcome, answer, and_then, Wrote}
-use Rattle.zigbee_types.specs.Answers.{written_says}
+use Rattle.zigbee_types.specs.Answers.{says}
 use Rattle.zigbee_types.specs.declared.Refusal.TheVariants.{UnknownCluster}
-use Rattle.zigbee_types.specs.declared.Written.TheVariants.{Refused}
 use Rattle.zigbee_types.proofs.Outcomes.{refused, wrote_refused}
 use Rattle.zigbee_types.proofs.Named.{Unnamed}
 use Rattle.zdo_requests.specs.Clusters.{NWK_ADDR_REQ_NUMBER, IEEE_ADDR_REQ_NUMBER, NODE_DESC_REQ_NUMBER, POWER_DESC_REQ_NUMBER, SIMPLE_DESC_REQ_NUMBER, ACTIVE_EP_REQ_NUMBER, MATCH_DESC_REQ_NUMBER}
@@ -78,8 +78,8 @@ pub by_none :
     → (cluster ≡ 4 → ⊥)
     → (cluster ≡ 5 → ⊥)
     → (cluster ≡ 6 → ⊥)
-    → Wrote (discovery h cluster payload) before (written_says (Refused UnknownCluster)) before
-unfolding discovery written_says
+    → Wrote (discovery h cluster payload) before (says (Err UnknownCluster)) before
+unfolding discovery says
 by_none h cluster payload before a b c d e f g =
     rw (ne_eqb cluster 0 a, ne_eqb cluster 1 b, ne_eqb cluster 2 c, ne_eqb cluster 3 d, ne_eqb cluster 4 e, ne_eqb cluster 5 f, ne_eqb cluster 6 g)
     (wrote_refused 2 before)

@@ -1,5 +1,6 @@
 -- The match reply: a request that was parsed has its lists within the payload, and a list made in as many places as there are records
 -- is whole. Assumes nothing.
+use Rattle.std.specs.Prelude.{Result, Ok}
 use Prim.Native.Nat.{ℕ, ◌≤◌, min}
 use native.Mathlib.Omega.{arith}
 use mathlib.Core.Path.{◌≡◌, sym, ◌∙◌}
@@ -9,6 +10,7 @@ use lib.Dec.{leb}
 use lib.ListN.{length, take, drop, length-append, length-map, length-take}
 use lib.Seq.{take_at, take_all}
 use borrow.Author.Tests.{leb-true, le-leb}
+use Rattle.zigbee_types.specs.declared.Refusal.{Refusal}
 use Rattle.zigbee_types.specs.Lists.{filter}
 use Rattle.zigbee_types.specs.Outcome.{Outcome, answer, mapped, needing, begun_length, begun, Begun, Wrote}
 use Rattle.zigbee_types.specs.Layout.{counted, behind, field_of, lists_in}
@@ -16,10 +18,8 @@ use Rattle.zigbee_types.specs.declared.Places.{Places}
 use Rattle.zigbee_types.specs.declared.ShortAddress.{ShortAddress}
 use Rattle.zigbee_types.proofs.Outcomes.{granted, mapped_granted}
 use Rattle.zdo_requests.specs.Requests.{match_widths, match_req_of, match_desc_req_in}
-use Rattle.zdo_requests.specs.Answers.{match_desc_req_says}
+use Rattle.zigbee_types.specs.Answers.{says}
 use Rattle.zdo_requests.specs.declared.descriptor.MatchDescReq.{MatchDescReq}
-use Rattle.zdo_requests.specs.declared.descriptor.MatchDescReqRead.{MatchDescReqRead}
-use Rattle.zdo_requests.specs.declared.descriptor.MatchDescReqRead.TheVariants as match
 use Rattle.zdo_replies.specs.Replies.{list_rsp}
 use Rattle.zdo_device.specs.Tables.{Pools, used, good_device, endpoint_of, resolved_in}
 use Rattle.zdo_device.specs.declared.descriptor.DeviceDescriptorConfig.{DeviceDescriptorConfig}
@@ -46,11 +46,11 @@ parsed_places payload {q} e =
 
 -- as its parser said
 pub match_places :
-    (payload : List ℕ) {r : MatchDescReqRead} {q : MatchDescReq}
-    → match_desc_req_says r ≡ match_desc_req_in payload
-    → r ≡ match.Request q
+    (payload : List ℕ) {r : Result MatchDescReq Refusal} {q : MatchDescReq}
+    → says r ≡ match_desc_req_in payload
+    → r ≡ Ok q
     → good_places q payload ≡ true
-unfolding match_desc_req_says
+unfolding says
 match_places payload said is = parsed_places payload (rw is at (sym said))
 
 -- ---- a list in places of its own

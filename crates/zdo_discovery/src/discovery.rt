@@ -1,7 +1,7 @@
 // The seven discovery requests, from payload to reply. (Added by document 01; 2.4.3.1, 2.4.4.2.)
 ghost use Rattle.std.specs.Prelude.{◌≤◌, ◌≡◌, true};
 ghost use Rattle.zigbee_types.specs.Outcome.{and_then, Wrote};
-ghost use Rattle.zigbee_types.specs.Answers.{written_says};
+ghost use Rattle.zigbee_types.specs.Answers.{says};
 ghost use Rattle.zdo_requests.specs.Requests.{nwk_addr_req_in, ieee_addr_req_in, addr_of_interest_req_in, simple_desc_req_in, match_desc_req_in};
 ghost use Rattle.zdo_replies.specs.Codes.{discovery_code};
 ghost use Rattle.zdo_replies.specs.Replies.{list_rsp};
@@ -23,13 +23,8 @@ use zdo_match_req::descriptor::parse_match_desc_req;
 use zdo_match_rsp::descriptor::{match_desc_rsp, match_desc_rsp_error};
 use zdo_matching::descriptor::matching_endpoints_checked;
 use zdo_replies::descriptor::DiscoveryError;
-use zdo_requests::descriptor::{
-    ACTIVE_EP_REQ, ADDR_REQUEST_EXTENDED, ADDR_REQUEST_SINGLE, AddrOfInterestReqRead,
-    IEEE_ADDR_REQ, IeeeAddrReqRead, MATCH_DESC_REQ, MatchDescReq, MatchDescReqRead, NODE_DESC_REQ,
-    NWK_ADDR_REQ, NwkAddrReqRead, POWER_DESC_REQ, SIMPLE_DESC_REQ, SimpleDescReqRead,
-    parse_addr_of_interest_req, parse_ieee_addr_req, parse_nwk_addr_req, parse_simple_desc_req,
-};
-use zigbee_types::{IeeeAddress, Refusal, ShortAddress, Written};
+use zdo_requests::descriptor::{ACTIVE_EP_REQ, ADDR_REQUEST_EXTENDED, ADDR_REQUEST_SINGLE, IEEE_ADDR_REQ, MATCH_DESC_REQ, MatchDescReq, NODE_DESC_REQ, NWK_ADDR_REQ, POWER_DESC_REQ, SIMPLE_DESC_REQ, parse_addr_of_interest_req, parse_ieee_addr_req, parse_nwk_addr_req, parse_simple_desc_req};
+use zigbee_types::{IeeeAddress, Refusal, ShortAddress};
 
 // The most endpoints that can match: as many as there are records (document 01, "Device tables and sizes").
 const MATCHES: usize = 32;
@@ -43,8 +38,8 @@ fn our_address(
     seq: u8,
     request_type: u8,
     out: &mut [u8],
-) -> Written
-    ensures { Wrote (our_address ieee_addr nwk_addr seq request_type) out.old (written_says result) out.new }
+) -> Result<usize, Refusal>
+    ensures { Wrote (our_address ieee_addr nwk_addr seq request_type) out.old (says result) out.new }
 {
     match request_type {
         ADDR_REQUEST_SINGLE => addr_rsp(seq, ieee_addr, nwk_addr, false, out),
@@ -66,21 +61,16 @@ fn on_nwk_addr(
     nwk_addr: ShortAddress,
     payload: &[u8],
     out: &mut [u8],
-) -> Written
-    ensures { Wrote (and_then (nwk_addr_req_in payload.now) (on_nwk_addr ieee_addr nwk_addr)) out.old (written_says result) out.new }
+) -> Result<usize, Refusal>
+    ensures { Wrote (and_then (nwk_addr_req_in payload.now) (on_nwk_addr ieee_addr nwk_addr)) out.old (says result) out.new }
 {
-    let read = parse_nwk_addr_req(payload);
-    match read {
-        NwkAddrReqRead::Request(request) => {
-            let asked = request.ieee_addr;
-            if asked.0 == ieee_addr.0 {
-                return our_address(ieee_addr, nwk_addr, request.seq, request.request_type, out);
-            }
-            let error = DiscoveryError::DeviceNotFound;
-            addr_rsp_error(request.seq, error, asked, ShortAddress(0xFFFF), out)
+    let request = parse_nwk_addr_req(payload)?;
+        let asked = request.ieee_addr;
+        if asked.0 == ieee_addr.0 {
+            return our_address(ieee_addr, nwk_addr, request.seq, request.request_type, out);
         }
-        NwkAddrReqRead::Refused(why) => Written::Refused(why),
-    }
+        let error = DiscoveryError::DeviceNotFound;
+        addr_rsp_error(request.seq, error, asked, ShortAddress(0xFFFF), out)
 }
 
 // Replies to an IEEE_addr_req (2.4.3.1.2). One about another device is told the same.
@@ -89,22 +79,17 @@ fn on_ieee_addr(
     nwk_addr: ShortAddress,
     payload: &[u8],
     out: &mut [u8],
-) -> Written
-    ensures { Wrote (and_then (ieee_addr_req_in payload.now) (on_ieee_addr ieee_addr nwk_addr)) out.old (written_says result) out.new }
+) -> Result<usize, Refusal>
+    ensures { Wrote (and_then (ieee_addr_req_in payload.now) (on_ieee_addr ieee_addr nwk_addr)) out.old (says result) out.new }
 {
-    let read = parse_ieee_addr_req(payload);
-    match read {
-        IeeeAddrReqRead::Request(request) => {
-            let asked = request.nwk_addr_of_interest;
-            if asked.0 == nwk_addr.0 {
-                return our_address(ieee_addr, nwk_addr, request.seq, request.request_type, out);
-            }
-            let error = DiscoveryError::DeviceNotFound;
-            let unknown = IeeeAddress(0xFFFF_FFFF_FFFF_FFFF);
-            addr_rsp_error(request.seq, error, unknown, asked, out)
+    let request = parse_ieee_addr_req(payload)?;
+        let asked = request.nwk_addr_of_interest;
+        if asked.0 == nwk_addr.0 {
+            return our_address(ieee_addr, nwk_addr, request.seq, request.request_type, out);
         }
-        IeeeAddrReqRead::Refused(why) => Written::Refused(why),
-    }
+        let error = DiscoveryError::DeviceNotFound;
+        let unknown = IeeeAddress(0xFFFF_FFFF_FFFF_FFFF);
+        addr_rsp_error(request.seq, error, unknown, asked, out)
 }
 
 // ---- descriptors and lists
@@ -128,20 +113,15 @@ fn on_node(
     nwk_addr: ShortAddress,
     payload: &[u8],
     out: &mut [u8],
-) -> Written
-    ensures { Wrote (and_then (addr_of_interest_req_in payload.now) (on_node node nwk_addr)) out.old (written_says result) out.new }
+) -> Result<usize, Refusal>
+    ensures { Wrote (and_then (addr_of_interest_req_in payload.now) (on_node node nwk_addr)) out.old (says result) out.new }
 {
-    let read = parse_addr_of_interest_req(payload);
-    match read {
-        AddrOfInterestReqRead::Request(request) => {
-            let asked = request.nwk_addr_of_interest;
-            if asked.0 == nwk_addr.0 {
-                return node_desc_rsp(node, request.seq, asked, out);
-            }
-            descriptor_rsp_error(request.seq, not_ours(node), asked, out)
+    let request = parse_addr_of_interest_req(payload)?;
+        let asked = request.nwk_addr_of_interest;
+        if asked.0 == nwk_addr.0 {
+            return node_desc_rsp(node, request.seq, asked, out);
         }
-        AddrOfInterestReqRead::Refused(why) => Written::Refused(why),
-    }
+        descriptor_rsp_error(request.seq, not_ours(node), asked, out)
 }
 
 // Replies to a Power_Desc_req (2.4.3.1.4).
@@ -151,20 +131,15 @@ fn on_power(
     nwk_addr: ShortAddress,
     payload: &[u8],
     out: &mut [u8],
-) -> Written
-    ensures { Wrote (and_then (addr_of_interest_req_in payload.now) (on_power node.logical_type power nwk_addr)) out.old (written_says result) out.new }
+) -> Result<usize, Refusal>
+    ensures { Wrote (and_then (addr_of_interest_req_in payload.now) (on_power node.logical_type power nwk_addr)) out.old (says result) out.new }
 {
-    let read = parse_addr_of_interest_req(payload);
-    match read {
-        AddrOfInterestReqRead::Request(request) => {
-            let asked = request.nwk_addr_of_interest;
-            if asked.0 == nwk_addr.0 {
-                return power_desc_rsp(power, request.seq, asked, out);
-            }
-            descriptor_rsp_error(request.seq, not_ours(node), asked, out)
+    let request = parse_addr_of_interest_req(payload)?;
+        let asked = request.nwk_addr_of_interest;
+        if asked.0 == nwk_addr.0 {
+            return power_desc_rsp(power, request.seq, asked, out);
         }
-        AddrOfInterestReqRead::Refused(why) => Written::Refused(why),
-    }
+        descriptor_rsp_error(request.seq, not_ours(node), asked, out)
 }
 
 // Replies to a Simple_Desc_req (2.4.3.1.5), of tables that were checked.
@@ -175,29 +150,24 @@ fn on_simple<'a>(
     outputs: &'a [u16],
     payload: &[u8],
     out: &mut [u8],
-) -> Written
+) -> Result<usize, Refusal>
     requires { good_device (pools inputs.now outputs.now) device ≡ true }
-    ensures { Wrote (and_then (simple_desc_req_in payload.now) (on_simple (pools inputs.now outputs.now) device nwk_addr)) out.old (written_says result) out.new }
+    ensures { Wrote (and_then (simple_desc_req_in payload.now) (on_simple (pools inputs.now outputs.now) device nwk_addr)) out.old (says result) out.new }
 {
-    let read = parse_simple_desc_req(payload);
-    match read {
-        SimpleDescReqRead::Request(request) => {
-            let asked = request.nwk_addr_of_interest;
-            if asked.0 == nwk_addr.0 {
-                return simple_desc_rsp_checked(
-                    device,
-                    request.seq,
-                    asked,
-                    request.endpoint,
-                    inputs,
-                    outputs,
-                    out,
-                );
-            }
-            simple_desc_rsp_error(request.seq, not_ours(device.node), asked, out)
+    let request = parse_simple_desc_req(payload)?;
+        let asked = request.nwk_addr_of_interest;
+        if asked.0 == nwk_addr.0 {
+            return simple_desc_rsp_checked(
+                device,
+                request.seq,
+                asked,
+                request.endpoint,
+                inputs,
+                outputs,
+                out,
+            );
         }
-        SimpleDescReqRead::Refused(why) => Written::Refused(why),
-    }
+        simple_desc_rsp_error(request.seq, not_ours(device.node), asked, out)
 }
 
 // Replies to an Active_EP_req (2.4.3.1.6), of a device whose count of records was checked.
@@ -206,21 +176,16 @@ fn on_active(
     nwk_addr: ShortAddress,
     payload: &[u8],
     out: &mut [u8],
-) -> Written
+) -> Result<usize, Refusal>
     requires { device.endpoint_count ≤ 32 }
-    ensures { Wrote (and_then (addr_of_interest_req_in payload.now) (on_active device nwk_addr)) out.old (written_says result) out.new }
+    ensures { Wrote (and_then (addr_of_interest_req_in payload.now) (on_active device nwk_addr)) out.old (says result) out.new }
 {
-    let read = parse_addr_of_interest_req(payload);
-    match read {
-        AddrOfInterestReqRead::Request(request) => {
-            let asked = request.nwk_addr_of_interest;
-            if asked.0 == nwk_addr.0 {
-                return active_ep_rsp(device, request.seq, asked, out);
-            }
-            active_ep_rsp_error(request.seq, not_ours(device.node), asked, out)
+    let request = parse_addr_of_interest_req(payload)?;
+        let asked = request.nwk_addr_of_interest;
+        if asked.0 == nwk_addr.0 {
+            return active_ep_rsp(device, request.seq, asked, out);
         }
-        AddrOfInterestReqRead::Refused(why) => Written::Refused(why),
-    }
+        active_ep_rsp_error(request.seq, not_ours(device.node), asked, out)
 }
 
 // Builds the Match_Desc_rsp to a request about us: the list is made in places of its own, of which there are enough, so it is
@@ -232,10 +197,10 @@ fn matched_rsp<'a>(
     request: MatchDescReq,
     payload: &[u8],
     out: &mut [u8],
-) -> Written
+) -> Result<usize, Refusal>
     requires device_value { good_device (pools inputs.now outputs.now) device ≡ true }
     requires payload_value { good_places request payload.now ≡ true }
-    ensures { Wrote (list_rsp request.seq request.nwk_addr_of_interest (match_list (wanted request payload.now) (resolved_in (pools inputs.now outputs.now) (used device)))) out.old (written_says result) out.new }
+    ensures { Wrote (list_rsp request.seq request.nwk_addr_of_interest (match_list (wanted request payload.now) (resolved_in (pools inputs.now outputs.now) (used device)))) out.old (says result) out.new }
 {
     let mut matches = [0u8; MATCHES];
     let matched = matching_endpoints_checked(
@@ -259,20 +224,15 @@ fn on_match<'a>(
     outputs: &'a [u16],
     payload: &[u8],
     out: &mut [u8],
-) -> Written
+) -> Result<usize, Refusal>
     requires { good_device (pools inputs.now outputs.now) device ≡ true }
-    ensures { Wrote (and_then (match_desc_req_in payload.now) (on_match device.node.logical_type (resolved_in (pools inputs.now outputs.now) (used device)) nwk_addr payload.now)) out.old (written_says result) out.new }
+    ensures { Wrote (and_then (match_desc_req_in payload.now) (on_match device.node.logical_type (resolved_in (pools inputs.now outputs.now) (used device)) nwk_addr payload.now)) out.old (says result) out.new }
 {
-    let read = parse_match_desc_req(payload);
-    match read {
-        MatchDescReqRead::Request(request) => {
-            if request.nwk_addr_of_interest.0 == nwk_addr.0 {
-                return matched_rsp(device, inputs, outputs, request, payload, out);
-            }
-            match_desc_rsp_error(request.seq, not_ours(device.node), out)
+    let request = parse_match_desc_req(payload)?;
+        if request.nwk_addr_of_interest.0 == nwk_addr.0 {
+            return matched_rsp(device, inputs, outputs, request, payload, out);
         }
-        MatchDescReqRead::Refused(why) => Written::Refused(why),
-    }
+        match_desc_rsp_error(request.seq, not_ours(device.node), out)
 }
 
 // ---- by the cluster
@@ -288,9 +248,9 @@ pub fn discovery<'a>(
     cluster: u16,
     payload: &[u8],
     out: &mut [u8],
-) -> Written
+) -> Result<usize, Refusal>
     requires { good_device (pools inputs.now outputs.now) device ≡ true }
-    ensures { Wrote (discovery (host_with device ieee_addr nwk_addr (pools inputs.now outputs.now)) cluster payload.now) out.old (written_says result) out.new }
+    ensures { Wrote (discovery (host_with device ieee_addr nwk_addr (pools inputs.now outputs.now)) cluster payload.now) out.old (says result) out.new }
 {
     let node = device.node;
     let power = device.power;
@@ -302,6 +262,6 @@ pub fn discovery<'a>(
         SIMPLE_DESC_REQ => on_simple(device, nwk_addr, inputs, outputs, payload, out),
         ACTIVE_EP_REQ => on_active(device, nwk_addr, payload, out),
         MATCH_DESC_REQ => on_match(device, nwk_addr, inputs, outputs, payload, out),
-        _ => Written::Refused(Refusal::UnknownCluster),
+        _ => Err(Refusal::UnknownCluster),
     }
 }

@@ -1,4 +1,5 @@
 -- Bind and unbind: whether the source is ours, and what the table then does. Assumes nothing.
+use Rattle.std.specs.Prelude.{Err}
 use Prim.Native.Nat.{ℕ, ◌≤◌, ◌<◌}
 use mathlib.Core.Path.{◌≡◌, refl, ◌∙◌}
 use mathlib.Core.Bool.{Bool, true, false, not}
@@ -6,14 +7,13 @@ use mathlib.Core.List.{List}
 use lib.ListN.{length}
 use borrow.Author.Tests.{eq-eqb, ne_eqb, le-leb, lt-leb}
 use Rattle.zigbee_types.specs.Outcome.{Outcome, answer, and_then, mapped, fitted, Wrote}
-use Rattle.zigbee_types.specs.Answers.{written_says}
+use Rattle.zigbee_types.specs.Answers.{says}
 use Rattle.zigbee_types.specs.Refusals.{refusal_number}
 use Rattle.zigbee_types.specs.Statuses.{SUCCESS, INVALID_EP, NOT_SUPPORTED, NO_ENTRY, TABLE_FULL}
 use Rattle.zigbee_types.specs.Layout.{laid, size}
 use Rattle.zigbee_types.specs.declared.IeeeAddress.{IeeeAddress}
 use Rattle.zigbee_types.specs.declared.Refusal.{Refusal}
 use Rattle.zigbee_types.specs.declared.Refusal.TheVariants.{ShortBuffer}
-use Rattle.zigbee_types.specs.declared.Written.TheVariants as written
 use Rattle.zigbee_types.proofs.Layouts.{laid_counted}
 use Rattle.zigbee_types.proofs.Outcomes.{wrote_refused}
 use Rattle.zigbee_types.proofs.Scans.{said_no, said_yes}
@@ -83,8 +83,8 @@ module _ (seq : ℕ) (s : LinkStatus) {before after : List ℕ} {told : Outcome 
 pub tells_refused :
     (seq : ℕ) (s : LinkStatus) (why : Refusal) (before : List ℕ)
     → s ≡ link.Refused why
-    → Wrote (and_then (link_says s) (status_rsp seq)) before (written_says (written.Refused why)) before
-unfolding link_says and_then written_says
+    → Wrote (and_then (link_says s) (status_rsp seq)) before (says (Err why)) before
+unfolding link_says and_then says
 tells_refused seq s why before e = rw e (wrote_refused (refusal_number why) before)
 
 -- ---- the reply

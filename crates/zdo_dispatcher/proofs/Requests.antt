@@ -1,4 +1,5 @@
 -- Any request: tables that are not good, and then by the cluster. Assumes nothing.
+use Rattle.std.specs.Prelude.{Result, Ok, Err}
 use Prim.Native.Nat.{ℕ, ◌^◌, ◌<◌}
 use native.Mathlib.Omega.{arith}
 use mathlib.Core.Path.{◌≡◌, refl, sym, ◌∙◌}
@@ -7,26 +8,20 @@ use mathlib.Core.List.{List, [], ◌∷◌}
 use lib.ListN.{length}
 use borrow.Author.Tests.{ne_eqb}
 use Rattle.zigbee_types.specs.Outcome.{Outcome, answer, refusal, and_then, mapped, fitted, Wrote}
-use Rattle.zigbee_types.specs.Answers.{written_says}
+use Rattle.zigbee_types.specs.Answers.{says}
 use Rattle.zigbee_types.specs.Refusals.{refusal_number}
 use Rattle.zigbee_types.specs.declared.IeeeAddress.{IeeeAddress}
 use Rattle.zigbee_types.specs.declared.Refusal.{Refusal}
 use Rattle.zigbee_types.specs.declared.Refusal.TheVariants.{BadTables}
-use Rattle.zigbee_types.specs.declared.Written.{Written}
 use Rattle.zigbee_types.proofs.Named.{Unnamed}
 use Rattle.zigbee_types.proofs.Outcomes.{wrote_answer}
 use Rattle.zigbee_types.proofs.Scans.{said_no, said_yes}
 use Rattle.aps_binding_table.specs.Table.{good_sizes, good_table}
 use Rattle.aps_binding_table.specs.declared.binding.BindingTable.{BindingTable}
-use Rattle.zdo_requests.specs.Answers.{bind_req_says, mgmt_leave_req_says}
 use Rattle.zdo_requests.specs.Clusters.{BIND_REQ_NUMBER, UNBIND_REQ_NUMBER, MGMT_LEAVE_REQ_NUMBER, reply_cluster}
 use Rattle.zdo_requests.specs.Requests.{bind_req_in, mgmt_leave_req_in}
 use Rattle.zdo_requests.specs.declared.descriptor.BindReq.{BindReq}
-use Rattle.zdo_requests.specs.declared.descriptor.BindReqRead.{BindReqRead}
-use Rattle.zdo_requests.specs.declared.descriptor.BindReqRead.TheVariants as bind
 use Rattle.zdo_requests.specs.declared.descriptor.MgmtLeaveReq.{MgmtLeaveReq}
-use Rattle.zdo_requests.specs.declared.descriptor.MgmtLeaveReqRead.{MgmtLeaveReqRead}
-use Rattle.zdo_requests.specs.declared.descriptor.MgmtLeaveReqRead.TheVariants as leaves
 use Rattle.zdo_device.specs.Tables.{Pools, good_device}
 use Rattle.zdo_device.specs.declared.descriptor.DeviceDescriptorConfig.{DeviceDescriptorConfig}
 use Rattle.zdo_discovery.specs.Host.{Host, asking, good_host}
@@ -41,29 +36,29 @@ use Rattle.zdo_dispatcher.proofs.Told.{dispatched_refused, dispatched_reply, kep
 -- ---- what was parsed
 
 module _ (payload : List ℕ) where
-  module _ (l : Link) (d : DeviceDescriptorConfig) (long : IeeeAddress) (t : BindingTable) (cluster : ℕ) (out : List ℕ) {r : BindReqRead} (said : bind_req_says r ≡ bind_req_in payload) where
+  module _ (l : Link) (d : DeviceDescriptorConfig) (long : IeeeAddress) (t : BindingTable) (cluster : ℕ) (out : List ℕ) {r : Result BindReq Refusal} (said : says r ≡ bind_req_in payload) where
     -- a bind or an unbind request
     pub link_read :
         {q : BindReq}
-        → r ≡ bind.Request q
+        → r ≡ Ok q
         → and_then (bind_req_in payload) (on_link l d long t (asking cluster payload out)) ≡ link_answer l (source_status d long q) t q cluster (length out)
-    unfolding bind_req_says and_then on_link asking
+    unfolding says and_then on_link asking
     link_read is = rw (← said, is)
 
     -- none
-    pub link_unread : {why : Refusal} → r ≡ bind.Refused why → and_then (bind_req_in payload) (on_link l d long t (asking cluster payload out)) ≡ refusal (refusal_number why)
-    unfolding bind_req_says and_then
+    pub link_unread : {why : Refusal} → r ≡ Err why → and_then (bind_req_in payload) (on_link l d long t (asking cluster payload out)) ≡ refusal (refusal_number why)
+    unfolding says and_then
     link_unread is = rw (← said, is)
 
-  module _ {r : MgmtLeaveReqRead} (said : mgmt_leave_req_says r ≡ mgmt_leave_req_in payload) where
+  module _ {r : Result MgmtLeaveReq Refusal} (said : says r ≡ mgmt_leave_req_in payload) where
     -- a leave request
-    pub leave_read : {q : MgmtLeaveReq} → r ≡ leaves.Request q → response_says (response.Leave q) ≡ mapped leaving (mgmt_leave_req_in payload)
-    unfolding mgmt_leave_req_says mapped response_says
+    pub leave_read : {q : MgmtLeaveReq} → r ≡ Ok q → response_says (response.Leave q) ≡ mapped leaving (mgmt_leave_req_in payload)
+    unfolding says mapped response_says
     leave_read is = rw (← said, is)
 
     -- none
-    pub leave_unread : {why : Refusal} → r ≡ leaves.Refused why → response_says (response.Refused why) ≡ mapped leaving (mgmt_leave_req_in payload)
-    unfolding mgmt_leave_req_says mapped response_says
+    pub leave_unread : {why : Refusal} → r ≡ Err why → response_says (response.Refused why) ≡ mapped leaving (mgmt_leave_req_in payload)
+    unfolding says mapped response_says
     leave_unread is = rw (← said, is)
 
 -- ---- what is left
@@ -152,10 +147,10 @@ discovery_told h cluster payload out w e t =
 
 -- the cluster of a discovery request that is answered is low
 pub low_cluster :
-    (h : Host) (cluster : ℕ) (payload : List ℕ) (w : Written) {out after : List ℕ}
-    → Wrote (discovery h cluster payload) out (written_says w) after
+    (h : Host) (cluster : ℕ) (payload : List ℕ) (w : Result ℕ Refusal) {out after : List ℕ}
+    → Wrote (discovery h cluster payload) out (says w) after
     → (n : ℕ)
-    → written_says w ≡ answer n
+    → says w ≡ answer n
     → cluster < 2 ^ 15
 low_cluster h cluster payload w {out} {after} wrote n e =
     let (bytes, is, there) = wrote_answer (discovery h cluster payload) {before = out} {after = after} (rw e at wrote) in

@@ -1,4 +1,5 @@
 -- A request as far as it goes without the binding table, and what the table then makes of it. Assumes nothing.
+use Rattle.std.specs.Prelude.{Result, Ok, Err}
 use Prim.Native.Nat.{ℕ, ◌^◌, ◌<◌, ◌≤◌}
 use mathlib.Core.Path.{◌≡◌, refl, sym, ◌∙◌}
 use mathlib.Core.Bool.{true}
@@ -13,12 +14,10 @@ use Rattle.zigbee_types.specs.declared.Refusal.TheVariants.{ShortBuffer}
 use Rattle.zigbee_types.proofs.Named.{Unnamed}
 use Rattle.aps_binding_table.specs.Table.{good_table}
 use Rattle.aps_binding_table.specs.declared.binding.BindingTable.{BindingTable}
-use Rattle.zdo_requests.specs.Answers.{bind_req_says}
+use Rattle.zigbee_types.specs.Answers.{says}
 use Rattle.zdo_requests.specs.Clusters.{BIND_REQ_NUMBER, UNBIND_REQ_NUMBER, MGMT_LEAVE_REQ_NUMBER, reply_cluster}
 use Rattle.zdo_requests.specs.Requests.{bind_req_in, mgmt_leave_req_in}
 use Rattle.zdo_requests.specs.declared.descriptor.BindReq.{BindReq}
-use Rattle.zdo_requests.specs.declared.descriptor.BindReqRead.{BindReqRead}
-use Rattle.zdo_requests.specs.declared.descriptor.BindReqRead.TheVariants as bind
 use Rattle.zdo_replies.specs.Replies.{status_rsp}
 use Rattle.zdo_device.specs.Tables.{good_device}
 use Rattle.zdo_device.specs.declared.descriptor.DeviceDescriptorConfig.{DeviceDescriptorConfig}
@@ -41,8 +40,8 @@ use Rattle.zdo_dispatcher.proofs.Told.{dispatched_refused}
 pub data Read (payload : List ℕ) : Type 0 where
   read : (q : BindReq) → bind_req_in payload ≡ answer q → Read payload
 
-pub was_read : (payload : List ℕ) {r : BindReqRead} {q : BindReq} → bind_req_says r ≡ bind_req_in payload → r ≡ bind.Request q → Read payload
-unfolding bind_req_says
+pub was_read : (payload : List ℕ) {r : Result BindReq Refusal} {q : BindReq} → says r ≡ bind_req_in payload → r ≡ Ok q → Read payload
+unfolding says
 was_read payload {r} {q} said is = read q (rw (← said, is))
 
 -- too short a buffer
@@ -54,14 +53,14 @@ pub take_full :
 unfolding AtTaken link_with asking and_then on_link
 take_full payload l d long cluster out (read q is) short = record { at = λ t full good. rw is (link_full l (source_status d long q) t q cluster out short) }
 
-module _ (payload : List ℕ) (l : Link) (d : DeviceDescriptorConfig) (long : IeeeAddress) (cluster : ℕ) (out : List ℕ) {r : BindReqRead} (said : bind_req_says r ≡ bind_req_in payload) where
+module _ (payload : List ℕ) (l : Link) (d : DeviceDescriptorConfig) (long : IeeeAddress) (cluster : ℕ) (out : List ℕ) {r : Result BindReq Refusal} (said : says r ≡ bind_req_in payload) where
   -- none was read
-  pub take_unread : {why : Refusal} → r ≡ bind.Refused why → TakenTo (link_with l d long (asking cluster payload out)) cluster (taken.Answered (response.Refused why)) out out
+  pub take_unread : {why : Refusal} → r ≡ Err why → TakenTo (link_with l d long (asking cluster payload out)) cluster (taken.Answered (response.Refused why)) out out
   unfolding AtTaken link_with asking response_says
   take_unread {why} is =
       record { at = λ t full good. rw (link_unread payload l d long t cluster out said is) (dispatched_refused why t out (refusal_number why) refl) }
 
-  module _ {q : BindReq} (is : r ≡ bind.Request q) where
+  module _ {q : BindReq} (is : r ≡ Ok q) where
     module _ {source code : ℕ} (ours : source ≡ source_status d long q) (coded : code ≡ source) where
       -- the source is not ours
       pub take_denied :

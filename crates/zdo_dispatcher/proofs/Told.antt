@@ -1,4 +1,5 @@
 -- What is told of a reply that a writer came to, and what a refusal leaves. Assumes nothing.
+use Rattle.std.specs.Prelude.{Result, Ok, Err}
 use Prim.Native.Nat.{ℕ, ◌+◌, ◌^◌, ◌<◌}
 use native.Mathlib.Omega.{arith}
 use mathlib.Core.Path.{◌≡◌, refl}
@@ -7,10 +8,8 @@ use lib.ListN.{length}
 use mir.Syntax.{w16}
 use mir.Val.{Fits}
 use Rattle.zigbee_types.specs.Outcome.{Outcome, answer, refusal, mapped, fitted, written, Wrote}
-use Rattle.zigbee_types.specs.Answers.{written_says}
+use Rattle.zigbee_types.specs.Answers.{says}
 use Rattle.zigbee_types.specs.declared.Refusal.{Refusal}
-use Rattle.zigbee_types.specs.declared.Written.{Written}
-use Rattle.zigbee_types.specs.declared.Written.TheVariants.{Length, Refused}
 use Rattle.aps_binding_table.specs.declared.binding.BindingTable.{BindingTable}
 use Rattle.zdo_requests.specs.Clusters.{reply_cluster}
 use Rattle.zdo_dispatcher.specs.Answers.{reply, Told, replied, told_of, table_after, buffer_after, response_says, Dispatched}
@@ -18,18 +17,18 @@ use Rattle.zdo_dispatcher.specs.declared.dispatcher.Response.TheVariants as resp
 
 -- ---- by the writer's answer
 
-module _ (cluster : ℕ) (w : Written) where
+module _ (cluster : ℕ) (w : Result ℕ Refusal) where
   -- the cluster of a reply is a number of two bytes
-  pub cluster_fits : {n : ℕ} → ((k : ℕ) → written_says w ≡ answer k → cluster < 2 ^ 15) → w ≡ Length n → Fits w16 (cluster + 0x8000)
-  unfolding written_says
+  pub cluster_fits : {n : ℕ} → ((k : ℕ) → says w ≡ answer k → cluster < 2 ^ 15) → w ≡ Ok n → Fits w16 (cluster + 0x8000)
+  unfolding says
   cluster_fits {n} small e = let low = small n (rw e) in record { fits = omega arith }
 
-  pub told_length : {n : ℕ} → w ≡ Length n → response_says (response.Reply (cluster + 0x8000) n) ≡ mapped (replied (reply_cluster cluster)) (written_says w)
-  unfolding written_says response_says mapped
+  pub told_length : {n : ℕ} → w ≡ Ok n → response_says (response.Reply (cluster + 0x8000) n) ≡ mapped (replied (reply_cluster cluster)) (says w)
+  unfolding says response_says mapped
   told_length e = rw e
 
-  pub told_refused : {why : Refusal} → w ≡ Refused why → response_says (response.Refused why) ≡ mapped (replied (reply_cluster cluster)) (written_says w)
-  unfolding written_says response_says mapped
+  pub told_refused : {why : Refusal} → w ≡ Err why → response_says (response.Refused why) ≡ mapped (replied (reply_cluster cluster)) (says w)
+  unfolding says response_says mapped
   told_refused e = rw e
 
 -- ---- what is left

@@ -1,7 +1,7 @@
 // What the device answers to a request. (Added by document 01, "Binding and dispatch".)
 ghost use Rattle.std.specs.Prelude.{ℕ, ◌^◌, ◌<◌, ◌≤◌, ◌≡◌, true, length};
 ghost use Rattle.zigbee_types.specs.Outcome.{answer, and_then, mapped, Wrote};
-ghost use Rattle.zigbee_types.specs.Answers.{written_says};
+ghost use Rattle.zigbee_types.specs.Answers.{says};
 ghost use Rattle.aps_binding_table.specs.Answers.{link_says};
 ghost use Rattle.aps_binding_table.specs.Table.{good_table, on_good, Leaves};
 ghost use Rattle.zdo_requests.specs.Clusters.{reply_cluster};
@@ -24,10 +24,8 @@ use zdo_device::descriptor::DeviceDescriptorConfig;
 use zdo_discovery::discovery::discovery;
 use zdo_leave_req::descriptor::parse_mgmt_leave_req;
 use zdo_replies::descriptor::{BindStatus, STATUS_SUCCESS, bind_rsp};
-use zdo_requests::descriptor::{
-    BIND_REQ, BindReq, BindReqRead, MGMT_LEAVE_REQ, MgmtLeaveReq, MgmtLeaveReqRead, UNBIND_REQ,
-};
-use zigbee_types::{IeeeAddress, Refusal, ShortAddress, Written};
+use zdo_requests::descriptor::{BIND_REQ, BindReq, MGMT_LEAVE_REQ, MgmtLeaveReq, UNBIND_REQ};
+use zigbee_types::{IeeeAddress, Refusal, ShortAddress};
 
 // What a request came to: a reply that was written, by its cluster and length; a leave, which is handed to the host; or why it was
 // refused.
@@ -49,16 +47,16 @@ pub struct Responded {
 const REPLY: u16 = 0x8000;
 
 // What is told of a reply to a request that came to `written`.
-fn told(cluster: u16, written: Written) -> Response
-    requires { (n : ℕ) → written_says written ≡ answer n → cluster < 2 ^ 15 }
-    ensures { response_says result ≡ mapped (replied (reply_cluster cluster)) (written_says written) }
+fn told(cluster: u16, written: Result<usize, Refusal>) -> Response
+    requires { (n : ℕ) → says written ≡ answer n → cluster < 2 ^ 15 }
+    ensures { response_says result ≡ mapped (replied (reply_cluster cluster)) (says written) }
 {
     match written {
-        Written::Length(length) => Response::Reply {
+        Ok(length) => Response::Reply {
             cluster: cluster + REPLY,
             length,
         },
-        Written::Refused(why) => Response::Refused(why),
+        Err(why) => Response::Refused(why),
     }
 }
 
@@ -99,14 +97,14 @@ fn bind_or_unbind(link: Link, table: BindingTable, binding: Binding) -> Linked
 }
 
 // Builds the reply that tells what a bind or an unbind came to.
-fn link_rsp(seq: u8, status: LinkStatus, out: &mut [u8]) -> Written
-    ensures { Wrote (and_then (link_says status) (status_rsp seq)) out.old (written_says result) out.new }
+fn link_rsp(seq: u8, status: LinkStatus, out: &mut [u8]) -> Result<usize, Refusal>
+    ensures { Wrote (and_then (link_says status) (status_rsp seq)) out.old (says result) out.new }
 {
     match status {
         LinkStatus::Success => bind_rsp(seq, BindStatus::Success, out),
         LinkStatus::InvalidBinding => bind_rsp(seq, BindStatus::NoEntry, out),
         LinkStatus::TableFull => bind_rsp(seq, BindStatus::TableFull, out),
-        LinkStatus::Refused(why) => Written::Refused(why),
+        LinkStatus::Refused(why) => Err(why),
     }
 }
 
@@ -132,7 +130,7 @@ fn take_link(
 {
     let read = parse_bind_req(payload);
     match read {
-        BindReqRead::Request(request) => {
+        Ok(request) => {
             if out.len() < 2 {
                 return Taken::Answered(Response::Refused(Refusal::ShortBuffer));
             }
@@ -143,7 +141,7 @@ fn take_link(
             }
             Taken::Asks { link, request }
         }
-        BindReqRead::Refused(why) => Taken::Answered(Response::Refused(why)),
+        Err(why) => Taken::Answered(Response::Refused(why)),
     }
 }
 
@@ -178,8 +176,8 @@ fn on_leave(payload: &[u8]) -> Response
 {
     let read = parse_mgmt_leave_req(payload);
     match read {
-        MgmtLeaveReqRead::Request(request) => Response::Leave(request),
-        MgmtLeaveReqRead::Refused(why) => Response::Refused(why),
+        Ok(request) => Response::Leave(request),
+        Err(why) => Response::Refused(why),
     }
 }
 

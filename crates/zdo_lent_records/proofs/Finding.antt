@@ -1,4 +1,5 @@
--- Matching over a run of records, a record in each turn, and the functions that do one record. Assumes nothing.
+-- (Result Matched Refusal) over a run of records, a record in each turn, and the functions that do one record. Assumes nothing.
+use Rattle.std.specs.Prelude.{Result, Ok, Err}
 use Prim.Native.Nat.{ℕ, ◌+◌, ◌≤◌, ◌<◌}
 use mathlib.Core.Path.{◌≡◌, refl}
 use mathlib.Core.Bool.{Bool, true, false, not, and-eq-true_iff}
@@ -16,49 +17,47 @@ use Rattle.zdo_device.specs.declared.descriptor.EndpointDescriptor.{EndpointDesc
 use Rattle.zdo_matching.specs.Matching.{wanted, good_places, matched_in, matched_records, may_match, matched_with}
 use Rattle.zdo_matching.specs.Answers.{matching_says}
 use Rattle.zdo_matching.specs.declared.descriptor.Matched.{Matched}
-use Rattle.zdo_matching.specs.declared.descriptor.Matching.{Matching}
-use Rattle.zdo_matching.specs.declared.descriptor.Matching.TheVariants as matching
 use Rattle.zdo_matching.proofs.Found.{Found, found_first, found_may, found_next, found_end, begun_refused}
 use Rattle.zdo_lent_records.specs.Turns.{matching_begun}
 
 -- ---- what it begins with
 
 module _ (good : Bool) (q : MatchDescReq) (payload : List ℕ) where
-  pub begins_bad : not good ≡ true → matching_says (matching.Refused BadTables) ≡ matching_begun good q payload
+  pub begins_bad : not good ≡ true → matching_says (Err BadTables) ≡ matching_begun good q payload
   unfolding matching_says matching_begun
   begins_bad bad = rw (said_no {b = good} refl bad)
 
   module _ (fine : not good ≡ false) {t : Bool} (is : t ≡ good_places q payload) where
-    pub begins_past : not t ≡ true → matching_says (matching.Refused Malformed) ≡ matching_begun good q payload
+    pub begins_past : not t ≡ true → matching_says (Err Malformed) ≡ matching_begun good q payload
     unfolding matching_says matching_begun
     begins_past bad = rw (said_yes {b = good} refl fine, said_no is bad)
 
-    pub begins_none : not t ≡ false → matching_says (matching.Matched (record { written = 0 })) ≡ matching_begun good q payload
+    pub begins_none : not t ≡ false → matching_says (Ok (record { written = 0 })) ≡ matching_begun good q payload
     unfolding matching_says matching_begun
     begins_none said = rw (said_yes {b = good} refl fine, said_yes is said)
 
 -- ---- one record
 
-module _ (p : Pools) (e : EndpointDescriptor) (q : MatchDescReq) (payload before : List ℕ) (m : Matching) where
+module _ (p : Pools) (e : EndpointDescriptor) (q : MatchDescReq) (payload before : List ℕ) (m : Result Matched Refusal) where
   -- a turn that may be taken is `match_record`'s
-  pub may_match_lem : {found : Matched} → m ≡ matching.Matched found → may_match p e q payload (length before) (matching_says m) ≡ true → may_match p e q payload (length before) (answer found.written) ≡ true
+  pub may_match_lem : {found : Matched} → m ≡ Ok found → may_match p e q payload (length before) (matching_says m) ≡ true → may_match p e q payload (length before) (answer found.written) ≡ true
   unfolding matching_says
   may_match_lem is may = rw is at may
 
-  abbrev Adds : Matching → List ℕ → Type 0
+  abbrev Adds : Result Matched Refusal → List ℕ → Type 0
   Adds r after = Begun (matched_with (wanted q payload) (endpoint_of p e) before (matching_says m)) before (matching_says r) after
 
   -- and so is what the record adds
   pub adds_found :
       {found more : Matched} {after : List ℕ}
-      → m ≡ matching.Matched found
+      → m ≡ Ok found
       → Begun (matched_with (wanted q payload) (endpoint_of p e) before (answer found.written)) before (answer more.written) after
-      → Adds (matching.Matched more) after
+      → Adds (Ok more) after
   unfolding matching_says
   adds_found is b = rw is b
 
   -- a refusal stays
-  pub adds_refused : {why : Refusal} → m ≡ matching.Refused why → Adds (matching.Refused why) before
+  pub adds_refused : {why : Refusal} → m ≡ Err why → Adds (Err why) before
   unfolding matched_with mapped matching_says
   adds_refused {why} is = rw is (begun_refused (refusal_number why) before)
 

@@ -1,4 +1,5 @@
 -- The active list over a run of records, a record in each turn, and the function that does one record. Assumes nothing.
+use Rattle.std.specs.Prelude.{Result, Ok, Err}
 use Prim.Native.Nat.{ℕ, ◌+◌, ◌≤◌, ◌<◌}
 use native.Mathlib.Omega.{arith}
 use mathlib.Core.Path.{◌≡◌, refl, sym, ◌∙◌}
@@ -7,15 +8,13 @@ use lib.ListN.{length, get_or, take, drop, length-append}
 use lib.Seq.{sets, sets-eq, take_all, length-take-le}
 use borrow.Author.Tests.{le-leb}
 use Rattle.zigbee_types.specs.Outcome.{Outcome, answer, refusal, mapped, fitted, written, Wrote}
-use Rattle.zigbee_types.specs.Answers.{written_says}
+use Rattle.zigbee_types.specs.Answers.{says}
 use Rattle.zigbee_types.specs.Refusals.{refusal_number}
 use Rattle.zigbee_types.specs.Bytes.{le, FieldPut}
 use Rattle.zigbee_types.specs.Layout.{byte, laid}
 use Rattle.zigbee_types.specs.declared.Refusal.{Refusal}
 use Rattle.zigbee_types.specs.declared.Refusal.TheVariants.{ShortBuffer}
 use Rattle.zigbee_types.specs.declared.ShortAddress.{ShortAddress}
-use Rattle.zigbee_types.specs.declared.Written.{Written}
-use Rattle.zigbee_types.specs.declared.Written.TheVariants.{Length, Refused}
 use Rattle.zigbee_types.proofs.Numbers.{le_counted}
 use Rattle.zigbee_types.proofs.Outcomes.{wrote_refused, wrote_full}
 use Rattle.zdo_device.specs.declared.descriptor.EndpointDescriptor.{EndpointDescriptor}
@@ -59,21 +58,21 @@ module _ (e : EndpointDescriptor) (before : List ℕ) where
       unfolding mapped fitted written
       wrote_put w = (rw (le-leb _ _ fits, long) at w.said, record { moved = refl; left = rw (le-leb _ _ fits, long) at w.left ∙ sym stands })
 
-  module _ (r : Written) where
-    abbrev Adds : Written → List ℕ → Type 0
-    Adds s after = Wrote (listed_with e before (written_says r)) before (written_says s) after
+  module _ (r : Result ℕ Refusal) where
+    abbrev Adds : Result ℕ Refusal → List ℕ → Type 0
+    Adds s after = Wrote (listed_with e before (says r)) before (says s) after
 
-    pub adds_full : {at : ℕ} → r ≡ Length at → length before ≤ at → Adds (Refused ShortBuffer) before
-    unfolding listed_with mapped written_says
+    pub adds_full : {at : ℕ} → r ≡ Ok at → length before ≤ at → Adds (Err ShortBuffer) before
+    unfolding listed_with mapped says
     adds_full {at} is h = rw is (wrote_full (bytes at) before (full at h))
 
-    pub adds_number : {at k : ℕ} {after : List ℕ} → r ≡ Length at → at < length before → FieldPut 1 e.endpoint before at k after → Adds (Length k) after
-    unfolding listed_with mapped written_says
+    pub adds_number : {at k : ℕ} {after : List ℕ} → r ≡ Ok at → at < length before → FieldPut 1 e.endpoint before at k after → Adds (Ok k) after
+    unfolding listed_with mapped says
     adds_number {at} is h q = rw is (put_wrote at h q)
 
     -- a refusal stays
-    pub adds_refused : {why : Refusal} → r ≡ Refused why → Adds (Refused why) before
-    unfolding listed_with mapped written_says
+    pub adds_refused : {why : Refusal} → r ≡ Err why → Adds (Err why) before
+    unfolding listed_with mapped says
     adds_refused {why} is = rw is (wrote_refused (refusal_number why) before)
 
 -- ---- the run
@@ -111,6 +110,6 @@ module _ (seq : ℕ) (a : ShortAddress) (records : List EndpointDescriptor) (bef
 
     -- all turns were taken
     pub listing_end : {o : Outcome ℕ} {after : List ℕ} → Listing i o after → length records ≤ i → Wrote (active_records seq a records) before o after
-    unfolding active_records written_says
+    unfolding active_records says
     listing_end (listed w l) h = listed_end l seq a (length records) refl w h
     listing_end (refused w) h = w

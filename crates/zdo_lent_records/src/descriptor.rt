@@ -3,7 +3,7 @@
 // in a function of its own.
 ghost use Rattle.std.specs.Prelude.{min, ◌≡◌, true, ◌&&◌, length, take};
 ghost use Rattle.zigbee_types.specs.Outcome.{Wrote, Begun};
-ghost use Rattle.zigbee_types.specs.Answers.{written_says};
+ghost use Rattle.zigbee_types.specs.Answers.{says};
 ghost use Rattle.zdo_device.specs.Tables.{pools, record_fits, good_records, endpoint_of};
 ghost use Rattle.zdo_matching.specs.Matching.{wanted, matched_records, may_match, matched_with};
 ghost use Rattle.zdo_matching.specs.Answers.{matching_says};
@@ -13,9 +13,9 @@ ghost use Rattle.zdo_lent_records.specs.Turns.{matching_begun, listed_with};
 use byte::write_u8;
 use zdo_device::descriptor::{EndpointDescriptor, good_sizes};
 use zdo_device_rsp::descriptor::begin_active_ep_rsp;
-use zdo_matching::descriptor::{Matched, Matching, good_places, match_record};
+use zdo_matching::descriptor::{Matched, good_places, match_record};
 use zdo_requests::descriptor::MatchDescReq;
-use zigbee_types::{Refusal, ShortAddress, Written};
+use zigbee_types::{Refusal, ShortAddress};
 
 // The most records that can be lent from an array: one more than a run may have.
 const LENT: usize = 33;
@@ -48,7 +48,7 @@ pub fn matching_endpoints_lent<'a>(
     request: MatchDescReq,
     payload: &[u8],
     out: &mut [u8],
-) -> Matching
+) -> Result<Matched, Refusal>
     ensures { Begun (matched_records (pools inputs.now outputs.now) endpoints.now request payload.now) out.old (matching_says result) out.new }
 {
     let good = good_records(endpoints, inputs, outputs);
@@ -76,8 +76,8 @@ pub fn active_ep_rsp_lent(
     seq: u8,
     nwk_addr: ShortAddress,
     out: &mut [u8],
-) -> Written
-    ensures { Wrote (active_records seq nwk_addr endpoints.now) out.old (written_says result) out.new }
+) -> Result<usize, Refusal>
+    ensures { Wrote (active_records seq nwk_addr endpoints.now) out.old (says result) out.new }
 {
     let mut written = begin_active_ep_rsp(endpoints.len(), seq, nwk_addr, out);
     let mut i: usize = 0;
@@ -98,53 +98,53 @@ fn good_turn<'a>(good: bool, ep: EndpointDescriptor, inputs: &'a [u16], outputs:
 }
 
 // What matching begins with: nothing found, or a refusal.
-fn begin_matching(good: bool, request: MatchDescReq, payload: &[u8]) -> Matching
+fn begin_matching(good: bool, request: MatchDescReq, payload: &[u8]) -> Result<Matched, Refusal>
     ensures { matching_says result ≡ matching_begun good request payload.now }
 {
     if !good {
-        return Matching::Refused(Refusal::BadTables);
+        return Err(Refusal::BadTables);
     }
     if !good_places(request, payload) {
-        return Matching::Refused(Refusal::Malformed);
+        return Err(Refusal::Malformed);
     }
-    Matching::Matched(Matched { written: 0 })
+    Ok(Matched { written: 0 })
 }
 
 // What was found, with one record more. A refusal stays.
 fn match_turn<'a>(
-    matching: Matching,
+    matching: Result<Matched, Refusal>,
     ep: EndpointDescriptor,
     inputs: &'a [u16],
     outputs: &'a [u16],
     request: MatchDescReq,
     payload: &[u8],
     out: &mut [u8],
-) -> Matching
+) -> Result<Matched, Refusal>
     requires { may_match (pools inputs.now outputs.now) ep request payload.now (length out.old) (matching_says matching) ≡ true }
     ensures { Begun (matched_with (wanted request payload.now) (endpoint_of (pools inputs.now outputs.now) ep) out.old (matching_says matching)) out.old (matching_says result) out.new }
 {
     match matching {
-        Matching::Matched(matched) => {
+        Ok(matched) => {
             let found = match_record(matched, ep, inputs, outputs, request, payload, out);
-            Matching::Matched(found)
+            Ok(found)
         }
-        Matching::Refused(why) => Matching::Refused(why),
+        Err(why) => Err(why),
     }
 }
 
 // What was listed, with one record more. A refusal stays.
-fn list_turn(written: Written, ep: EndpointDescriptor, out: &mut [u8]) -> Written
-    ensures { Wrote (listed_with ep out.old (written_says written)) out.old (written_says result) out.new }
+fn list_turn(written: Result<usize, Refusal>, ep: EndpointDescriptor, out: &mut [u8]) -> Result<usize, Refusal>
+    ensures { Wrote (listed_with ep out.old (says written)) out.old (says result) out.new }
 {
     match written {
-        Written::Length(at) => {
+        Ok(at) => {
             if at >= out.len() {
-                return Written::Refused(Refusal::ShortBuffer);
+                return Err(Refusal::ShortBuffer);
             }
             let at = write_u8(out, at, ep.endpoint);
-            Written::Length(at)
+            Ok(at)
         }
-        Written::Refused(why) => Written::Refused(why),
+        Err(why) => Err(why),
     }
 }
 
@@ -159,7 +159,7 @@ pub fn lend_matching_endpoints<'a>(
     request: MatchDescReq,
     payload: &[u8],
     out: &mut [u8],
-) -> Matching
+) -> Result<Matched, Refusal>
     ensures { Begun (matched_records (pools inputs.now outputs.now) (take count endpoints) request payload.now) out.old (matching_says result) out.new }
 {
     let count = at_most_lent(count);
@@ -173,8 +173,8 @@ pub fn lend_active_ep_rsp(
     seq: u8,
     nwk_addr: ShortAddress,
     out: &mut [u8],
-) -> Written
-    ensures { Wrote (active_records seq nwk_addr (take count endpoints)) out.old (written_says result) out.new }
+) -> Result<usize, Refusal>
+    ensures { Wrote (active_records seq nwk_addr (take count endpoints)) out.old (says result) out.new }
 {
     let count = at_most_lent(count);
     active_ep_rsp_lent(&endpoints[..count], seq, nwk_addr, out)

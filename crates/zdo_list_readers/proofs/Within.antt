@@ -1,4 +1,5 @@
 -- A descriptor within its length: none, or what was read of it, its lists counted from the start of the reply. Assumes nothing.
+use Rattle.std.specs.Prelude.{Some, None, Result, Ok, Err}
 use Prim.Native.Nat.{ℕ, ◌+◌, ◌-◌, ◌^◌, ◌≤◌, ◌<◌}
 use native.Mathlib.Omega.{arith}
 use mathlib.Core.Path.{◌≡◌, sym}
@@ -15,55 +16,49 @@ use Rattle.zigbee_types.specs.declared.ClusterLists.{ClusterLists}
 use Rattle.zigbee_types.specs.declared.Refusal.{Refusal}
 use Rattle.zigbee_types.proofs.Outcomes.{granted, mapped_granted}
 use Rattle.zigbee_types.proofs.Parts.{part_is}
-use Rattle.simple_descriptor.specs.SimpleDescriptor.{simple_widths, simple_of, simple_descriptor_in, simple_says}
+use Rattle.simple_descriptor.specs.SimpleDescriptor.{simple_widths, simple_of, simple_descriptor_in}
+use Rattle.zigbee_types.specs.Answers.{says}
 use Rattle.simple_descriptor.specs.declared.SimpleDescriptorFields.{SimpleDescriptorFields}
-use Rattle.simple_descriptor.specs.declared.SimpleDescriptorRead.{SimpleDescriptorRead}
-use Rattle.simple_descriptor.specs.declared.SimpleDescriptorRead.TheVariants as descriptor
 use Rattle.zdo_list_readers.specs.ListReaders.{list_reply_in, shifted, shifted_fields, simple_within, simple_reply_in}
-use Rattle.zdo_list_readers.specs.Answers.{list_reply_says, simple_reply_says}
 use Rattle.zdo_list_readers.specs.declared.readers.ListReply.{ListReply}
-use Rattle.zdo_list_readers.specs.declared.readers.ListReplyRead.{ListReplyRead}
-use Rattle.zdo_list_readers.specs.declared.readers.ListReplyRead.TheVariants as list
-use Rattle.zdo_list_readers.specs.declared.readers.OptionSimpleDescriptor.TheVariants.{Some, None}
 use Rattle.zdo_list_readers.specs.declared.readers.SimpleReply.{SimpleReply}
-use Rattle.zdo_list_readers.specs.declared.readers.SimpleReplyRead.TheVariants as simple
 
 module _ (l : ListReply) (bytes : List ℕ) where
   -- of length 0 there is none
-  pub within_none : l.list.count ≡ 0 → simple_reply_says (simple.Reply (record { header = l.header; descriptor = None })) ≡ simple_within l bytes
-  unfolding simple_reply_says simple_within
+  pub within_none : l.list.count ≡ 0 → says (Ok (record { header = l.header; descriptor = None })) ≡ simple_within l bytes
+  unfolding says simple_within
   within_none e = rw e
 
   module _
-      (read : SimpleDescriptorRead) (end : ℕ)
+      (read : Result SimpleDescriptorFields Refusal) (end : ℕ)
       (long : l.list.count ≡ 0 → ⊥)
-      (said : simple_says read ≡ simple_descriptor_in (take (end - l.list.start) (drop l.list.start bytes)))
+      (said : says read ≡ simple_descriptor_in (take (end - l.list.start) (drop l.list.start bytes)))
       (to : end ≡ l.list.start + l.list.count)
     where
-      there : simple_says read ≡ simple_descriptor_in (part l.list.start l.list.count bytes)
+      there : says read ≡ simple_descriptor_in (part l.list.start l.list.count bytes)
       there = rw (part_is bytes l.list.start end l.list.count to) at said
 
       -- refused where no descriptor was read
-      pub within_refused : {why : Refusal} → read ≡ descriptor.Refused why → simple_reply_says (simple.Refused why) ≡ simple_within l bytes
-      unfolding simple_reply_says simple_within simple_says mapped
+      pub within_refused : {why : Refusal} → read ≡ Err why → says (Err why) ≡ simple_within l bytes
+      unfolding says simple_within mapped
       within_refused e = rw (ne_eqb _ _ long, ← there, e)
 
       -- otherwise what was read, moved to its place
       pub within_read :
           {d f : SimpleDescriptorFields}
-          → read ≡ descriptor.Descriptor d
+          → read ≡ Ok d
           → f ≡ shifted_fields l.list.start d
-          → simple_reply_says (simple.Reply (record { header = l.header; descriptor = Some f })) ≡ simple_within l bytes
-      unfolding simple_reply_says simple_within simple_says mapped
+          → says (Ok (record { header = l.header; descriptor = Some f })) ≡ simple_within l bytes
+      unfolding says simple_within mapped
       within_read e is = rw (ne_eqb _ _ long, ← there, e, is)
 
 -- lists that were read end within the bytes
 pub lists_end :
-    (bytes : List ℕ) (read : SimpleDescriptorRead) {d : SimpleDescriptorFields}
-    → simple_says read ≡ simple_descriptor_in bytes
-    → read ≡ descriptor.Descriptor d
+    (bytes : List ℕ) (read : Result SimpleDescriptorFields Refusal) {d : SimpleDescriptorFields}
+    → says read ≡ simple_descriptor_in bytes
+    → read ≡ Ok d
     → (behind 2 d.input_clusters ≤ length bytes) × (behind 2 d.output_clusters ≤ length bytes)
-unfolding simple_says simple_descriptor_in lists_in needing simple_of behind counted
+unfolding says simple_descriptor_in lists_in needing simple_of behind counted
 lists_end bytes read {d} said e =
     let inputs : Places = counted bytes 6 in
     let outputs : Places = counted bytes (behind 2 inputs) in
@@ -77,9 +72,9 @@ lists_end bytes read {d} said e =
 
 -- so they still have a place in the reply
 pub places_fit :
-    (bytes : List ℕ) (place : Places) (read : SimpleDescriptorRead) {d : SimpleDescriptorFields}
-    → simple_says read ≡ simple_descriptor_in (take (place.start + place.count - place.start) (drop place.start bytes))
-    → read ≡ descriptor.Descriptor d
+    (bytes : List ℕ) (place : Places) (read : Result SimpleDescriptorFields Refusal) {d : SimpleDescriptorFields}
+    → says read ≡ simple_descriptor_in (take (place.start + place.count - place.start) (drop place.start bytes))
+    → read ≡ Ok d
     → behind 1 place ≤ length bytes
     → length bytes < 2 ^ 63
     → (place.start + d.input_clusters.start < 2 ^ 63) × (place.start + d.output_clusters.start < 2 ^ 63)
@@ -109,11 +104,11 @@ unfolding shifted_fields
 moved_both at d e f = rw (e, f)
 
 -- what the reader of the list said
-module _ (bytes : List ℕ) (read : ListReplyRead) (said : list_reply_says read ≡ list_reply_in bytes) where
-  pub simple_headed : {l : ListReply} {told : Outcome SimpleReply} → read ≡ list.Reply l → told ≡ simple_within l bytes → told ≡ simple_reply_in bytes
-  unfolding list_reply_says simple_reply_in and_then
+module _ (bytes : List ℕ) (read : Result ListReply Refusal) (said : says read ≡ list_reply_in bytes) where
+  pub simple_headed : {l : ListReply} {told : Outcome SimpleReply} → read ≡ Ok l → told ≡ simple_within l bytes → told ≡ simple_reply_in bytes
+  unfolding says simple_reply_in and_then
   simple_headed e t = rw (← said, e) t
 
-  pub simple_refused : {why : Refusal} → read ≡ list.Refused why → simple_reply_says (simple.Refused why) ≡ simple_reply_in bytes
-  unfolding list_reply_says simple_reply_says simple_reply_in and_then
+  pub simple_refused : {why : Refusal} → read ≡ Err why → says (Err why) ≡ simple_reply_in bytes
+  unfolding says simple_reply_in and_then
   simple_refused e = rw (← said, e)

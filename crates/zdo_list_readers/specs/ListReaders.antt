@@ -1,6 +1,6 @@
 -- The readers of active, match and simple replies, which carry a list or a descriptor behind its length (document 01, "Reply
 -- readers"). A reply that is shorter than its layout needs is refusal 3. Bytes behind it are ignored.
-use Rattle.std.specs.Prelude.{ℕ, ◌+◌, Bool, true, false, cond, List, [], ◌∷◌, eqb}
+use Rattle.std.specs.Prelude.{ℕ, ◌+◌, Bool, true, false, cond, List, [], ◌∷◌, eqb, Some, None}
 use Rattle.zigbee_types.specs.Lists.{part}
 use Rattle.zigbee_types.specs.Outcome.{Outcome, answer, and_then, mapped, needing}
 use Rattle.zigbee_types.specs.Bytes.{number_at}
@@ -15,7 +15,6 @@ use Rattle.zdo_list_readers.specs.declared.readers.ListReply.{ListReply}
 use Rattle.zdo_list_readers.specs.declared.readers.MatchReply.{MatchReply}
 use Rattle.zdo_list_readers.specs.declared.readers.MatchReply.TheVariants.{Matched, Failed}
 use Rattle.zdo_list_readers.specs.declared.readers.SimpleReply.{SimpleReply}
-use Rattle.zdo_list_readers.specs.declared.readers.OptionSimpleDescriptor.TheVariants as simple
 
 -- ---- active and match
 
@@ -65,9 +64,9 @@ unfoldable pub simple_within : ListReply → List ℕ → Outcome SimpleReply
 simple_within l reply =
     let place = l.list in
     cond (eqb place.count 0)
-    (answer (record { header = l.header; descriptor = simple.None }))
+    (answer (record { header = l.header; descriptor = None }))
     (mapped
-    (λ d. record { header = l.header; descriptor = simple.Some (shifted_fields place.start d) })
+    (λ d. record { header = l.header; descriptor = Some (shifted_fields place.start d) })
     (simple_descriptor_in (part place.start place.count reply)))
 
 -- 2.4.4.2.5, of any status: the length stands where an active reply has its count, the descriptor where that has its list, and it must

@@ -3,12 +3,12 @@ ghost use Rattle.std.specs.Prelude.{◌≡◌, ◌+◌, ◌^◌, ◌≤◌, ◌<
 ghost use Rattle.zigbee_types.specs.Outcome.{mapped};
 ghost use Rattle.zigbee_types.specs.Layout.{behind};
 ghost use Rattle.zdo_list_readers.specs.ListReaders.{list_behind, list_reply_in, match_reply_in, shifted, shifted_fields, simple_within, simple_reply_in};
-ghost use Rattle.zdo_list_readers.specs.Answers.{list_reply_says, match_reply_says, simple_reply_says};
+ghost use Rattle.zigbee_types.specs.Answers.{says};
 ghost use Rattle.zdo_list_readers.specs.declared.readers.MatchReply.TheVariants.{Matched};
 
 use byte::read_u8;
-use simple_descriptor::{SimpleDescriptorFields, SimpleDescriptorRead};
-use zdo_readers::readers::{ReplyHeader, ReplyHeaderRead, StatusReply};
+use simple_descriptor::SimpleDescriptorFields;
+use zdo_readers::readers::{ReplyHeader, StatusReply};
 use zdo_replies::descriptor::STATUS_SUCCESS;
 use zigbee_types::{Places, Refusal};
 
@@ -22,40 +22,31 @@ pub struct ListReply {
     pub list: Places,
 }
 
-#[derive(Clone, Copy)]
-pub enum ListReplyRead {
-    Reply(ListReply),
-    Refused(Refusal),
-}
-
 impl ListReply {
     // Reads an Active_EP_rsp (2.4.4.2.6): the header, ActiveEPCount, ActiveEPList. The list must be whole.
-    pub fn try_read(reply: &[u8]) -> ListReplyRead
-        ensures { list_reply_says result ≡ list_reply_in reply.now }
+    pub fn try_read(reply: &[u8]) -> Result<ListReply, Refusal>
+        ensures { says result ≡ list_reply_in reply.now }
     {
-        let read = ReplyHeader::try_read(reply);
-        match read {
-            ReplyHeaderRead::Header(header) => ListReply::behind(header, reply),
-            ReplyHeaderRead::Refused(why) => ListReplyRead::Refused(why),
-        }
+        let header = ReplyHeader::try_read(reply)?;
+        ListReply::behind(header, reply)
     }
 
     // The reply that begins with this header: its list is counted at byte 4.
     #[tactic(auto, using(crate::proofs::Listed::list_none, crate::proofs::Listed::list_cut, crate::proofs::Listed::list_whole))]
-    fn behind(header: ReplyHeader, reply: &[u8]) -> ListReplyRead
-        ensures { list_reply_says result ≡ list_behind header reply.now }
+    fn behind(header: ReplyHeader, reply: &[u8]) -> Result<ListReply, Refusal>
+        ensures { says result ≡ list_behind header reply.now }
     {
         if reply.len() < 5 {
-            return ListReplyRead::Refused(Refusal::Malformed);
+            return Err(Refusal::Malformed);
         }
-        let read = read_u8(reply, 4);
+        let list = read_u8(reply, 4);
         let start = read.next;
         let count = read.value as usize;
         if reply.len() < start + count {
-            return ListReplyRead::Refused(Refusal::Malformed);
+            return Err(Refusal::Malformed);
         }
         let list = Places { start, count };
-        ListReplyRead::Reply(ListReply { header, list })
+        Ok(ListReply { header, list })
     }
 }
 
@@ -68,39 +59,33 @@ pub enum MatchReply {
     Failed(StatusReply),
 }
 
-#[derive(Clone, Copy)]
-pub enum MatchReplyRead {
-    Reply(MatchReply),
-    Refused(Refusal),
-}
-
 impl MatchReply {
     // Reads a Match_Desc_rsp (2.4.4.2.7): with SUCCESS as an Active_EP_rsp, with another status in the 3-byte form, whose last byte
     // is ignored.
-    pub fn try_read(reply: &[u8]) -> MatchReplyRead
-        ensures { match_reply_says result ≡ match_reply_in reply.now }
+    pub fn try_read(reply: &[u8]) -> Result<MatchReply, Refusal>
+        ensures { says result ≡ match_reply_in reply.now }
     {
         if reply.len() < 3 {
-            return MatchReplyRead::Refused(Refusal::Malformed);
+            return Err(Refusal::Malformed);
         }
         let seq = read_u8(reply, 0);
         let status = read_u8(reply, seq.next);
         if status.value == STATUS_SUCCESS {
             return MatchReply::matched(ListReply::try_read(reply));
         }
-        MatchReplyRead::Reply(MatchReply::Failed(StatusReply {
+        Ok(MatchReply::Failed(StatusReply {
             seq: seq.value,
             status: status.value,
         }))
     }
 
     // The reply that has this list; refused where the list was.
-    fn matched(read: ListReplyRead) -> MatchReplyRead
-        ensures { match_reply_says result ≡ mapped Matched (list_reply_says read) }
+    fn matched(read: Result<ListReply, Refusal>) -> Result<MatchReply, Refusal>
+        ensures { says result ≡ mapped Matched (says read) }
     {
         match read {
-            ListReplyRead::Reply(list) => MatchReplyRead::Reply(MatchReply::Matched(list)),
-            ListReplyRead::Refused(why) => MatchReplyRead::Refused(why),
+            Ok(list) => Ok(MatchReply::Matched(list)),
+            Err(why) => Err(why),
         }
     }
 }
@@ -111,55 +96,35 @@ impl MatchReply {
 #[derive(Clone, Copy)]
 pub struct SimpleReply {
     pub header: ReplyHeader,
-    pub descriptor: OptionSimpleDescriptor,
-}
-
-#[derive(Clone, Copy)]
-pub enum OptionSimpleDescriptor {
-    Some(SimpleDescriptorFields),
-    None,
-}
-
-#[derive(Clone, Copy)]
-pub enum SimpleReplyRead {
-    Reply(SimpleReply),
-    Refused(Refusal),
+    pub descriptor: Option<SimpleDescriptorFields>,
 }
 
 impl SimpleReply {
     // Reads a Simple_Desc_rsp (2.4.4.2.5): the header, Length, SimpleDescriptor. The descriptor is read within its length; 0 means
     // none.
-    pub fn try_read(reply: &[u8]) -> SimpleReplyRead
-        ensures { simple_reply_says result ≡ simple_reply_in reply.now }
+    pub fn try_read(reply: &[u8]) -> Result<SimpleReply, Refusal>
+        ensures { says result ≡ simple_reply_in reply.now }
     {
-        let read = ListReply::try_read(reply);
-        match read {
-            ListReplyRead::Reply(list) => SimpleReply::within(list, reply),
-            ListReplyRead::Refused(why) => SimpleReplyRead::Refused(why),
-        }
+        let fields = ListReply::try_read(reply)?;
+        SimpleReply::within(list, reply)
     }
 
     // The reply whose header and whose descriptor's place were read.
-    fn within(list: ListReply, reply: &[u8]) -> SimpleReplyRead
+    fn within(list: ListReply, reply: &[u8]) -> Result<SimpleReply, Refusal>
         requires { behind 1 list.list ≤ length reply.now }
-        ensures { simple_reply_says result ≡ simple_within list reply.now }
+        ensures { says result ≡ simple_within list reply.now }
     {
         let header = list.header;
         let place = list.list;
         let start = place.start;
         let count = place.count;
         if count == 0 {
-            let descriptor = OptionSimpleDescriptor::None;
-            return SimpleReplyRead::Reply(SimpleReply { header, descriptor });
+            let descriptor = None;
+            return Ok(SimpleReply { header, descriptor });
         }
-        let read = SimpleDescriptorFields::try_read(&reply[start..start + count]);
-        match read {
-            SimpleDescriptorRead::Descriptor(fields) => {
-                let descriptor = OptionSimpleDescriptor::Some(shifted_fields(start, fields));
-                SimpleReplyRead::Reply(SimpleReply { header, descriptor })
-            }
-            SimpleDescriptorRead::Refused(why) => SimpleReplyRead::Refused(why),
-        }
+        let read = SimpleDescriptorFields::try_read(&reply[start..start + count])?;
+            let descriptor = Some(shifted_fields(start, fields));
+            Ok(SimpleReply { header, descriptor })
     }
 }
 

@@ -1,4 +1,5 @@
 -- A match request: the fields in front, then two lists. Assumes nothing.
+use Rattle.std.specs.Prelude.{Result, Ok, Err}
 use Prim.Native.Nat.{ℕ, ◌<◌}
 use native.Mathlib.Omega.{arith}
 use mathlib.Core.Path.{◌≡◌}
@@ -8,38 +9,34 @@ use Rattle.zigbee_types.specs.Outcome.{mapped}
 use Rattle.zigbee_types.specs.Bytes.{FieldRead}
 use Rattle.zigbee_types.specs.Layout.{lists_in}
 use Rattle.zigbee_types.specs.Addresses.{short_of}
-use Rattle.zigbee_types.specs.Answers.{lists_says}
+use Rattle.zigbee_types.specs.Answers.{says}
 use Rattle.zigbee_types.specs.declared.Refusal.{Refusal}
 use Rattle.zigbee_types.specs.declared.Refusal.TheVariants.{Malformed}
 use Rattle.zigbee_types.specs.declared.ClusterLists.{ClusterLists}
-use Rattle.zigbee_types.specs.declared.ClusterListsRead.{ClusterListsRead}
-use Rattle.zigbee_types.specs.declared.ClusterListsRead.TheVariants as lists
 use Rattle.zigbee_types.proofs.Counted.{lists_none}
 use Rattle.zigbee_types.proofs.Runs.{RunRead, run_read_none, run_read_more}
 use Rattle.zdo_requests.specs.Requests.{match_widths, match_req_of, match_desc_req_in}
-use Rattle.zdo_requests.specs.Answers.{match_desc_req_says}
-use Rattle.zdo_requests.specs.declared.descriptor.MatchDescReqRead.TheVariants as match
 
 -- too few bytes
-pub match_short : (bytes : List ℕ) → length bytes < 5 → match_desc_req_says (match.Refused Malformed) ≡ match_desc_req_in bytes
-unfolding match_desc_req_says match_desc_req_in mapped lists_says
+pub match_short : (bytes : List ℕ) → length bytes < 5 → says (Err Malformed) ≡ match_desc_req_in bytes
+unfolding says match_desc_req_in mapped
 match_short bytes h = rw (← lists_none bytes 5 (omega arith))
 
 -- the fields in front, and what the reader of the lists behind them said
 module _
-    {bytes : List ℕ} {u v w i j k : ℕ} (read : ClusterListsRead)
+    {bytes : List ℕ} {u v w i j k : ℕ} (read : Result ClusterLists Refusal)
     (p : FieldRead 1 bytes 0 u i)
     (q : FieldRead 2 bytes i v j)
     (r : FieldRead 2 bytes j w k)
-    (said : lists_says read ≡ lists_in bytes k) where
-  there : lists_in bytes 5 ≡ lists_says read
+    (said : says read ≡ lists_in bytes k) where
+  there : lists_in bytes 5 ≡ says read
   there = let place : k ≡ 5 = omega (arith, p.moved, q.moved, r.moved) in rw (said, place)
 
   pub match_read_lem :
       {found : ClusterLists}
-      → read ≡ lists.Lists found
-      → match_desc_req_says
-      (match.Request
+      → read ≡ Ok found
+      → says
+      (Ok
       (record {
         seq = u;
         nwk_addr_of_interest = short_of v;
@@ -48,11 +45,11 @@ module _
         output_clusters = found.output_clusters;
       }))
       ≡ match_desc_req_in bytes
-  unfolding match_desc_req_says match_desc_req_in match_widths match_req_of mapped lists_says
+  unfolding says match_desc_req_in match_widths match_req_of mapped
   match_read_lem e =
       let run : RunRead match_widths bytes 0 (u ∷ v ∷ w ∷ []) = run_read_more p (run_read_more q (run_read_more r run_read_none)) in
       rw (there, e, ← run.told)
 
-  pub match_refused : {why : Refusal} → read ≡ lists.Refused why → match_desc_req_says (match.Refused why) ≡ match_desc_req_in bytes
-  unfolding match_desc_req_says match_desc_req_in mapped lists_says
+  pub match_refused : {why : Refusal} → read ≡ Err why → says (Err why) ≡ match_desc_req_in bytes
+  unfolding says match_desc_req_in mapped
   match_refused e = rw (there, e)

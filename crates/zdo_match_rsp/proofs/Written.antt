@@ -1,4 +1,5 @@
 -- Bytes behind a place of a buffer, and a list of bytes behind the header. Assumes nothing.
+use Rattle.std.specs.Prelude.{Ok, Err}
 use Prim.Native.Nat.{ℕ, ◌+◌, ◌-◌, ◌≤◌, ◌<◌, min}
 use native.Mathlib.Omega.{arith}
 use mathlib.Core.Path.{◌≡◌, sym, ◌∙◌}
@@ -7,14 +8,13 @@ use lib.ListN.{length, take, drop, length-append}
 use lib.Seq.{sets, sets-eq, length-sets, length-take-le}
 use borrow.Author.Tests.{le-leb, lt-leb}
 use Rattle.zigbee_types.specs.Outcome.{Outcome, answer, refusal, mapped, fitted, written, Wrote}
-use Rattle.zigbee_types.specs.Answers.{written_says}
+use Rattle.zigbee_types.specs.Answers.{says}
 use Rattle.zigbee_types.specs.Bytes.{FieldPut}
 use Rattle.zigbee_types.specs.Layout.{byte, laid, size, FieldsPut}
 use Rattle.zigbee_types.specs.FieldLaws.{widths}
 use Rattle.zigbee_types.specs.Statuses.{SUCCESS}
 use Rattle.zigbee_types.specs.declared.Refusal.TheVariants.{ShortBuffer}
 use Rattle.zigbee_types.specs.declared.ShortAddress.{ShortAddress}
-use Rattle.zigbee_types.specs.declared.Written.TheVariants.{Length, Refused}
 use Rattle.zigbee_types.proofs.Fields.{put_counted}
 use Rattle.zigbee_types.proofs.Entries.{EntriesPut, entries_all}
 use Rattle.zigbee_types.proofs.Layouts.{laid_counted, size_entries}
@@ -32,8 +32,8 @@ module _ (at : ℕ) (s xs : List ℕ) (h : at ≤ length s) where
   front_long = rw (length-append, length-take-le at s h, bytes_long)
 
   -- refused where there is no room
-  pub append_full : length s - at < length xs → Wrote (answer (take at s ++ laid (map byte xs))) s (written_says (Refused ShortBuffer)) s
-  unfolding written_says mapped fitted written
+  pub append_full : length s - at < length xs → Wrote (answer (take at s ++ laid (map byte xs))) s (says (Err ShortBuffer)) s
+  unfolding says mapped fitted written
   append_full l =
       let full : length s < length (take at s ++ laid (map byte xs)) = rw front_long (omega arith) in
       record { said = rw (lt-leb _ _ full); left = rw (lt-leb _ _ full) }
@@ -46,8 +46,8 @@ module _ (at : ℕ) (s xs : List ℕ) (h : at ≤ length s) where
     there = rw (front_long, sets-eq (laid (map byte xs)) s at (rw bytes_long room), bytes_long, append_assoc)
 
     -- otherwise written, where they are put at the place
-    append_writes : {k : ℕ} {t : List ℕ} → FieldsPut (map byte xs) s at k t → Wrote (answer (take at s ++ laid (map byte xs))) s (written_says (Length k)) t
-    unfolding written_says mapped fitted written
+    append_writes : {k : ℕ} {t : List ℕ} → FieldsPut (map byte xs) s at k t → Wrote (answer (take at s ++ laid (map byte xs))) s (says (Ok k)) t
+    unfolding says mapped fitted written
     append_writes p = record { said = rw (le-leb _ _ fits, front_long, p.moved, bytes_long); left = rw (le-leb _ _ fits, p.left) there }
 
     -- and what was appended was put
@@ -66,7 +66,7 @@ pub append_end :
     → length xs ≤ i
     → at ≤ length s
     → length xs ≤ length s - at
-    → Wrote (answer (take at s ++ laid (map byte xs))) s (written_says (Length k)) t
+    → Wrote (answer (take at s ++ laid (map byte xs))) s (says (Ok k)) t
 append_end {at} {s = s} {xs = xs} p e h room = append_writes at s xs h (omega arith) (entries_all p e)
 
 -- ---- the reply
@@ -78,8 +78,8 @@ module _ (seq : ℕ) (a : ShortAddress) (xs s : List ℕ) where
   list_size = omega (arith, size_entries 1 xs)
 
   -- refused where there is no room
-  pub list_full : length s < 5 + length xs → Wrote (list_rsp seq a xs) s (written_says (Refused ShortBuffer)) s
-  unfolding list_rsp written_says
+  pub list_full : length s < 5 + length xs → Wrote (list_rsp seq a xs) s (says (Err ShortBuffer)) s
+  unfolding list_rsp says
   list_full h = run_full (header seq SUCCESS a ++ endpoint_list xs) s (rw list_size h)
 
   -- otherwise the header, the count and the endpoints are the reply
@@ -90,8 +90,8 @@ module _ (seq : ℕ) (a : ShortAddress) (xs s : List ℕ) where
       → FieldPut 1 c t m n u
       → FieldsPut (map byte xs) u n k v
       → 5 + length xs ≤ length s
-      → Wrote (list_rsp seq a xs) s (written_says (Length k)) v
-  unfolding list_rsp endpoint_list written_says
+      → Wrote (list_rsp seq a xs) s (says (Ok k)) v
+  unfolding list_rsp endpoint_list says
   list_writes p e q r h = run_writes (run_put_both p (run_put_told q e r)) (rw list_size h)
 
   -- so are they where the endpoints were appended
@@ -103,7 +103,7 @@ module _ (seq : ℕ) (a : ShortAddress) (xs s : List ℕ) where
       → Wrote (answer (take n u ++ laid (map byte xs))) u told v
       → 5 + length xs ≤ length s
       → Wrote (list_rsp seq a xs) s told v
-  unfolding written_says
+  unfolding says
   list_appended {m = m} {n} {t} {u} p e q w h =
       let front : length t ≡ length s = rw p.left (length-sets s 0 (laid (header seq SUCCESS a))) in
       let place : n ≡ 5 = omega (arith, header_place seq SUCCESS a p, q.moved) in

@@ -1,4 +1,5 @@
 -- The records of a run that match, for a loop that goes through all of them, and what the tests before it refuse. Assumes nothing.
+use Rattle.std.specs.Prelude.{Ok, Err}
 use Prim.Native.Nat.{ℕ, ◌+◌, ◌≤◌, ◌<◌}
 use native.Mathlib.Numerals.{add-one}
 use native.Mathlib.Omega.{arith}
@@ -21,7 +22,6 @@ use Rattle.zdo_device.proofs.Records.{used_at, At, at_first, at_inside, at_next,
 use Rattle.zdo_matching.specs.Matching.{Wanted, wanted, matches, match_list, good_places, matched_in, matched_records, matching_endpoints, may_match, matched_with}
 use Rattle.zdo_matching.specs.Answers.{matching_says}
 use Rattle.zdo_matching.specs.declared.descriptor.Matched.{Matched}
-use Rattle.zdo_matching.specs.declared.descriptor.Matching.TheVariants as matching
 use Rattle.zdo_matching.proofs.Filled.{Filled, filled_none, filled_length, filled_within, filled_more, filled_begun, begun_filled, behind_none, behind_full, behind_one}
 
 -- ---- one record
@@ -154,13 +154,13 @@ module _
     {t : Bool}
     (is : t ≡ good_device p d) where
   -- refusal 1
-  pub refused_tables : not t ≡ true → Begun (matching_endpoints p d q payload) before (matching_says (matching.Refused BadTables)) before
+  pub refused_tables : not t ≡ true → Begun (matching_endpoints p d q payload) before (matching_says (Err BadTables)) before
   unfolding matching_says matching_endpoints
   refused_tables bad = rw (said_no is bad) (begun_refused 1 before)
 
   module _ (fine : not t ≡ false) {u : Bool} (places : u ≡ good_places q payload) where
     -- refusal 3
-    pub refused_places : not u ≡ true → Begun (matching_endpoints p d q payload) before (matching_says (matching.Refused Malformed)) before
+    pub refused_places : not u ≡ true → Begun (matching_endpoints p d q payload) before (matching_says (Err Malformed)) before
     unfolding matching_says matching_endpoints matched_in
     refused_places bad = rw (said_yes is fine, said_no places bad) (begun_refused 3 before)
 
@@ -169,6 +169,6 @@ module _
         not u ≡ false
         → (m : Matched) {after : List ℕ}
         → Begun (answer (match_list (wanted q payload) (resolved_in p (used d)))) before (answer m.written) after
-        → Begun (matching_endpoints p d q payload) before (matching_says (matching.Matched m)) after
+        → Begun (matching_endpoints p d q payload) before (matching_says (Ok m)) after
     unfolding matching_says matching_endpoints matched_in
     found_matched good m h = rw (said_yes is fine, said_yes places good) h

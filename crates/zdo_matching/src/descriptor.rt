@@ -20,13 +20,6 @@ pub struct Matched {
     pub written: usize,
 }
 
-// What matching found, or why it was refused.
-#[derive(Clone, Copy)]
-pub enum Matching {
-    Matched(Matched),
-    Refused(Refusal),
-}
-
 // Writes the endpoints matching the request (2.4.4.2.7.1.1) at the front of `out`, in table order, as many as there is room for;
 // what stands behind them stays. The request's lists stand in the payload. Bad tables are refused, and then lists that run past the
 // payload; nothing is written in either case.
@@ -37,17 +30,17 @@ pub fn matching_endpoints<'a>(
     request: MatchDescReq,
     payload: &[u8],
     out: &mut [u8],
-) -> Matching
+) -> Result<Matched, Refusal>
     ensures { Begun (matching_endpoints (pools inputs.now outputs.now) device request payload.now) out.old (matching_says result) out.new }
 {
     if !device.good_tables(inputs, outputs) {
-        return Matching::Refused(Refusal::BadTables);
+        return Err(Refusal::BadTables);
     }
     if !good_places(request, payload) {
-        return Matching::Refused(Refusal::Malformed);
+        return Err(Refusal::Malformed);
     }
     let matched = matching_endpoints_checked(device, inputs, outputs, request, payload, out);
-    Matching::Matched(matched)
+    Ok(matched)
 }
 
 // The same, of tables and lists that were checked.

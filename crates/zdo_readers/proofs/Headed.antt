@@ -1,4 +1,5 @@
 -- Replies that begin with the header: what follows from what its reader said, and a descriptor behind it. Assumes nothing.
+use Rattle.std.specs.Prelude.{Result, Ok, Err}
 use Prim.Native.Nat.{ℕ, ◌-◌, ◌≤◌}
 use native.Mathlib.Omega.{arith}
 use mathlib.Core.Path.{◌≡◌, sym}
@@ -15,35 +16,33 @@ use Rattle.zigbee_types.specs.declared.Refusal.{Refusal}
 use Rattle.zigbee_types.proofs.Outcomes.{granted}
 use Rattle.zigbee_types.proofs.Parts.{part_whole}
 use Rattle.zdo_readers.specs.Readers.{header_widths, header_in, descriptor_reply_in}
-use Rattle.zdo_readers.specs.Answers.{header_says}
+use Rattle.zigbee_types.specs.Answers.{says}
 use Rattle.zdo_readers.specs.declared.readers.ReplyHeader.{ReplyHeader}
-use Rattle.zdo_readers.specs.declared.readers.ReplyHeaderRead.{ReplyHeaderRead}
-use Rattle.zdo_readers.specs.declared.readers.ReplyHeaderRead.TheVariants.{Header, Refused}
 
 -- what the reader of the header said
-module _ (bytes : List ℕ) (read : ReplyHeaderRead) (said : header_says read ≡ header_in bytes) where
+module _ (bytes : List ℕ) (read : Result ReplyHeader Refusal) (said : says read ≡ header_in bytes) where
   -- a reply without one is refused, whatever was to follow
-  pub headed_refused : {R : Type 0} (next : ReplyHeader → Outcome R) {why : Refusal} → read ≡ Refused why → refusal (refusal_number why) ≡ and_then (header_in bytes) next
-  unfolding header_says and_then
+  pub headed_refused : {R : Type 0} (next : ReplyHeader → Outcome R) {why : Refusal} → read ≡ Err why → refusal (refusal_number why) ≡ and_then (header_in bytes) next
+  unfolding says and_then
   headed_refused next e = rw (← said, e)
 
   -- so is one that was to go on with a descriptor
   pub described_refused :
       {D R : Type 0} (descriptorIn : List ℕ → Outcome D) (with : ReplyHeader → D → R) (without : ReplyHeader → R) {why : Refusal}
-      → read ≡ Refused why
+      → read ≡ Err why
       → refusal (refusal_number why) ≡ descriptor_reply_in descriptorIn with without bytes
   unfolding descriptor_reply_in
   described_refused descriptorIn with without e = headed_refused _ e
 
-  module _ {h : ReplyHeader} (e : read ≡ Header h) where
+  module _ {h : ReplyHeader} (e : read ≡ Ok h) where
     -- one with it is what follows
     pub headed : {R : Type 0} (next : ReplyHeader → Outcome R) {told : Outcome R} → told ≡ next h → told ≡ and_then (header_in bytes) next
-    unfolding header_says and_then
+    unfolding says and_then
     headed next t = rw (← said, e) t
 
     -- and has four bytes
     pub header_long : {n : ℕ} → n ≤ 4 → n ≤ length bytes
-    unfolding header_says header_in header_widths parsed size needing
+    unfolding says header_in header_widths parsed size needing
     header_long few =
         let (held, _) = granted (leb 4 (length bytes)) _ 3 (rw e at (sym said)) in
         let long = leb-true 4 (length bytes) held in

@@ -1,5 +1,6 @@
 -- Replies of a sequence number and a status: refused where there are fewer than two bytes, and read otherwise. `StatusReply::try_read` leans
 -- on these. Assumes nothing.
+use Rattle.std.specs.Prelude.{Ok, Err}
 use Prim.Native.Nat.{ℕ, ◌≤◌, ◌<◌}
 use mathlib.Core.Path.{◌≡◌, refl}
 use mathlib.Core.List.{List}
@@ -9,12 +10,11 @@ use Rattle.zigbee_types.specs.Layout.{size}
 use Rattle.zigbee_types.specs.declared.Refusal.TheVariants.{Malformed}
 use Rattle.zigbee_types.proofs.Runs.{two_parse, run_short}
 use Rattle.zdo_readers.specs.Readers.{status_widths, status_reply_in}
-use Rattle.zdo_readers.specs.Answers.{status_reply_says}
-use Rattle.zdo_readers.specs.declared.readers.StatusReplyRead.TheVariants.{Reply, Refused}
+use Rattle.zigbee_types.specs.Answers.{says}
 
 module _ (bytes : List ℕ) where
-  pub status_short : length bytes < 2 → status_reply_says (Refused Malformed) ≡ status_reply_in bytes
-  unfolding status_reply_says status_reply_in status_widths size
+  pub status_short : length bytes < 2 → says (Err Malformed) ≡ status_reply_in bytes
+  unfolding says status_reply_in status_widths size
   status_short h = run_short status_widths bytes _ h
 
   pub status_parse :
@@ -22,6 +22,6 @@ module _ (bytes : List ℕ) where
       → FieldRead 1 bytes 0 u i
       → FieldRead 1 bytes i v j
       → 2 ≤ length bytes
-      → status_reply_says (Reply (record { seq = u; status = v })) ≡ status_reply_in bytes
-  unfolding status_reply_says status_reply_in status_widths size
+      → says (Ok (record { seq = u; status = v })) ≡ status_reply_in bytes
+  unfolding says status_reply_in status_widths size
   status_parse p q h = two_parse _ p q h refl

@@ -2,8 +2,7 @@
 -- reply that is shorter than its layout needs is refusal 3. Bytes behind it are ignored, but where document 01 reads more if there is
 -- more: the server mask of `parse_node_desc_rsp` from 14 bytes on, and what an extended address reply adds, whose list goes up to the
 -- reply's end.
-use Rattle.std.specs.Prelude.{ℕ, ◌-◌, ◌/◌, Bool, true, false, ◌&&◌, cond, List, [], ◌∷◌, eqb, leb, length, drop}
-use Rattle.std.proofs.Math.Option.{Option, none, some}
+use Rattle.std.specs.Prelude.{ℕ, ◌-◌, ◌/◌, Bool, true, false, ◌&&◌, cond, List, [], ◌∷◌, eqb, leb, length, drop, Option, Some, None}
 use Rattle.zigbee_types.specs.Outcome.{Outcome, answer, and_then, mapped}
 use Rattle.zigbee_types.specs.Bytes.{number_at}
 use Rattle.zigbee_types.specs.Layout.{parsed}
@@ -15,16 +14,10 @@ use Rattle.node_descriptor.specs.declared.NodeDescriptor.{NodeDescriptor}
 use Rattle.node_power_descriptor.specs.PowerDescriptor.{power_descriptor_in}
 use Rattle.node_power_descriptor.specs.declared.NodePowerDescriptor.{NodePowerDescriptor}
 use Rattle.zdo_readers.specs.declared.descriptor.NodeDescRsp.{NodeDescRsp}
-use Rattle.zdo_readers.specs.declared.descriptor.OptionServerMask.{OptionServerMask}
-use Rattle.zdo_readers.specs.declared.descriptor.OptionServerMask.TheVariants as mask
 use Rattle.zdo_readers.specs.declared.readers.ReplyHeader.{ReplyHeader}
 use Rattle.zdo_readers.specs.declared.readers.NodeReply.{NodeReply}
-use Rattle.zdo_readers.specs.declared.readers.OptionNodeDescriptor.TheVariants as node
 use Rattle.zdo_readers.specs.declared.readers.PowerReply.{PowerReply}
-use Rattle.zdo_readers.specs.declared.readers.OptionPowerDescriptor.TheVariants as power
 use Rattle.zdo_readers.specs.declared.readers.AddrReply.{AddrReply}
-use Rattle.zdo_readers.specs.declared.readers.OptionAssociated.{OptionAssociated}
-use Rattle.zdo_readers.specs.declared.readers.OptionAssociated.TheVariants as associated
 use Rattle.zdo_readers.specs.declared.readers.StatusReply.{StatusReply}
 
 -- seq, status, the address of interest: 4 bytes
@@ -37,18 +30,18 @@ header_in = parsed header_widths (λ field. record { seq = field 0; status = fie
 
 -- ---- node and power
 
--- node and power replies: with SUCCESS a descriptor stands from byte 4 on, and may be refused; with another status there is none
+-- node and power replies: with SUCCESS a descriptor stands from byte 4 on, and may be refused; with another status there is None
 unfoldable pub descriptor_reply_in : {D R : Type 0} → (List ℕ → Outcome D) → (ReplyHeader → D → R) → (ReplyHeader → R) → List ℕ → Outcome R
 descriptor_reply_in descriptorIn with without reply =
     and_then (header_in reply) (λ h. cond (eqb h.status SUCCESS) (mapped (with h) (descriptorIn (drop 4 reply))) (answer (without h)))
 
 -- a node reply with its descriptor
 abbrev pub node_with : ReplyHeader → NodeDescriptor → NodeReply
-node_with h d = record { header = h; descriptor = node.Some d }
+node_with h d = record { header = h; descriptor = Some d }
 
 -- and without one
 abbrev pub node_without : ReplyHeader → NodeReply
-node_without h = record { header = h; descriptor = node.None }
+node_without h = record { header = h; descriptor = None }
 
 -- 2.4.4.2.3. (One of SUCCESS that has its header and no whole descriptor is refused like one without a header; `header_in` tells which.)
 unfoldable pub node_reply_in : List ℕ → Outcome NodeReply
@@ -56,11 +49,11 @@ node_reply_in = descriptor_reply_in node_descriptor_in node_with node_without
 
 -- a power reply with its descriptor
 abbrev pub power_with : ReplyHeader → NodePowerDescriptor → PowerReply
-power_with h d = record { header = h; descriptor = power.Some d }
+power_with h d = record { header = h; descriptor = Some d }
 
 -- and without one
 abbrev pub power_without : ReplyHeader → PowerReply
-power_without h = record { header = h; descriptor = power.None }
+power_without h = record { header = h; descriptor = None }
 
 -- 2.4.4.2.4
 unfoldable pub power_reply_in : List ℕ → Outcome PowerReply
@@ -73,9 +66,9 @@ goes_further status reply = eqb status SUCCESS && leb 14 (length reply)
 -- ---- the server mask alone
 
 -- is there one: it stands at byte 12
-unfoldable pub server_mask_in : Bool → List ℕ → OptionServerMask
-server_mask_in true reply = mask.Some (number_at 2 reply 12)
-server_mask_in false reply = mask.None
+unfoldable pub server_mask_in : Bool → List ℕ → Option ℕ
+server_mask_in true reply = Some (number_at 2 reply 12)
+server_mask_in false reply = None
 
 -- `parse_node_desc_rsp`: needs 4 bytes, and gives the server mask only with SUCCESS and 14 bytes
 unfoldable pub node_desc_rsp_in : List ℕ → Outcome NodeDescRsp
@@ -91,19 +84,19 @@ node_desc_rsp_in reply =
     reply
 
 -- `stack_revision`: that of the server mask, where there is one
-unfoldable pub stack_revision_of : OptionServerMask → Option ℕ
-stack_revision_of (mask.Some m) = some (stack_revision m)
-stack_revision_of mask.None = none
+unfoldable pub stack_revision_of : Option ℕ → Option ℕ
+stack_revision_of (Some m) = Some (stack_revision m)
+stack_revision_of None = None
 
 -- ---- addresses
 
 -- is it extended: then it goes on with the number of devices and the index. Addresses stand from byte 14 on, two bytes each, up to the
 -- reply's end, whatever number it tells; a single last byte is ignored.
-unfoldable pub associated_in : Bool → List ℕ → OptionAssociated
+unfoldable pub associated_in : Bool → List ℕ → Option Associated
 associated_in true reply =
-    associated.Some
+    Some
     (record { num_assoc_dev = number_at 1 reply 12; start_index = number_at 1 reply 13; devices = record { start = 14; count = (length reply - 14) / 2 } })
-associated_in false reply = associated.None
+associated_in false reply = None
 
 -- seq, status, IEEE address, short address: 12 bytes
 unfoldable pub addr_widths : List ℕ

@@ -1,7 +1,7 @@
 // The one reader of a reply that the Rust has (000).
 ghost use Rattle.std.specs.Prelude.{◌≡◌};
 ghost use Rattle.zdo_readers.specs.Readers.{goes_further, server_mask_in, node_desc_rsp_in, stack_revision_of};
-ghost use Rattle.zdo_readers.specs.Answers.{node_desc_rsp_says, revision_says};
+ghost use Rattle.zigbee_types.specs.Answers.{says};
 
 use byte::{read_u8, read_u16};
 use zdo_replies::descriptor::STATUS_SUCCESS;
@@ -15,56 +15,35 @@ pub struct NodeDescRsp {
     pub status: u8,
     pub nwk_addr_of_interest: ShortAddress,
     // Server mask of the responding node (2.3.2.3.10), absent unless the status is SUCCESS and the reply has 14 bytes.
-    pub server_mask: OptionServerMask,
-}
-
-// A server mask, or none.
-#[derive(Clone, Copy)]
-pub enum OptionServerMask {
-    Some(u16),
-    None,
-}
-
-// A stack revision, or none.
-#[derive(Clone, Copy)]
-pub enum OptionStackRevision {
-    Some(u8),
-    None,
-}
-
-// What `parse_node_desc_rsp` answers: the reply, or why there is none.
-#[derive(Clone, Copy)]
-pub enum NodeDescRspRead {
-    Reply(NodeDescRsp),
-    Refused(Refusal),
+    pub server_mask: Option<u16>,
 }
 
 impl NodeDescRsp {
     // Stack revision the responder complies with, taken from the upper seven bits of the server mask (2.3.2.3.10); `None` without
     // a mask.
-    pub fn stack_revision(self) -> OptionStackRevision
-        ensures { revision_says result ≡ stack_revision_of self.server_mask }
+    pub fn stack_revision(self) -> Option<u8>
+        ensures { result ≡ stack_revision_of self.server_mask }
     {
         let server_mask = self.server_mask;
         match server_mask {
-            OptionServerMask::Some(mask) => OptionStackRevision::Some((mask >> 9) as u8),
-            OptionServerMask::None => OptionStackRevision::None,
+            Some(mask) => Some((mask >> 9) as u8),
+            None => None,
         }
     }
 }
 
 // Parses a Node_Desc_rsp (2.4.4.2.3): seq, status, NWKAddrOfInterest(2), and of the node descriptor the server mask.
-pub fn parse_node_desc_rsp(asdu: &[u8]) -> NodeDescRspRead
-    ensures { node_desc_rsp_says result ≡ node_desc_rsp_in asdu.now }
+pub fn parse_node_desc_rsp(asdu: &[u8]) -> Result<NodeDescRsp, Refusal>
+    ensures { says result ≡ node_desc_rsp_in asdu.now }
 {
     if asdu.len() < 4 {
-        return NodeDescRspRead::Refused(Refusal::Malformed);
+        return Err(Refusal::Malformed);
     }
     let seq = read_u8(asdu, 0);
     let status = read_u8(asdu, seq.next);
     let nwk_addr_of_interest = read_u16(asdu, status.next);
     let server_mask = server_mask(asdu, status.value);
-    NodeDescRspRead::Reply(NodeDescRsp {
+    Ok(NodeDescRsp {
         seq: seq.value,
         status: status.value,
         nwk_addr_of_interest: ShortAddress(nwk_addr_of_interest.value),
@@ -74,15 +53,15 @@ pub fn parse_node_desc_rsp(asdu: &[u8]) -> NodeDescRspRead
 
 // The server mask, which sits 8 octets into the node descriptor (2.3.2.3); absent unless the status is SUCCESS and it is there.
 #[tactic(auto, using(crate::proofs::Longer::mask_laws))]
-fn server_mask(asdu: &[u8], status: u8) -> OptionServerMask
+fn server_mask(asdu: &[u8], status: u8) -> Option<u16>
     ensures { result ≡ server_mask_in (goes_further status asdu.now) asdu.now }
 {
     if status != STATUS_SUCCESS {
-        return OptionServerMask::None;
+        return None;
     }
     if asdu.len() < 14 {
-        return OptionServerMask::None;
+        return None;
     }
     let mask = read_u16(asdu, 12);
-    OptionServerMask::Some(mask.value)
+    Some(mask.value)
 }

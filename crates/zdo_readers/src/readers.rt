@@ -2,14 +2,12 @@
 // those of bind, unbind and leave.
 ghost use Rattle.std.specs.Prelude.{◌≡◌};
 ghost use Rattle.zigbee_types.specs.Outcome.{mapped};
-ghost use Rattle.node_descriptor.specs.NodeDescriptor.{node_says};
-ghost use Rattle.node_power_descriptor.specs.PowerDescriptor.{power_says};
+ghost use Rattle.zigbee_types.specs.Answers.{says};
 ghost use Rattle.zdo_readers.specs.Readers.{header_in, goes_further, node_with, node_reply_in, power_with, power_reply_in, associated_in, addr_reply_in, status_reply_in};
-ghost use Rattle.zdo_readers.specs.Answers.{header_says, node_reply_says, power_reply_says, addr_reply_says, status_reply_says};
 
 use byte::{read_u8, read_u16, read_u64};
-use node_descriptor::{NodeDescriptor, NodeDescriptorRead};
-use node_power_descriptor::{NodePowerDescriptor, NodePowerDescriptorRead};
+use node_descriptor::NodeDescriptor;
+use node_power_descriptor::NodePowerDescriptor;
 use zdo_replies::descriptor::STATUS_SUCCESS;
 use zigbee_types::{IeeeAddress, Places, Refusal, ShortAddress};
 
@@ -22,24 +20,18 @@ pub struct ReplyHeader {
     pub nwk_addr_of_interest: ShortAddress,
 }
 
-#[derive(Clone, Copy)]
-pub enum ReplyHeaderRead {
-    Header(ReplyHeader),
-    Refused(Refusal),
-}
-
 impl ReplyHeader {
     // Reads seq, status, NWKAddrOfInterest(2) at the front of a reply.
-    pub fn try_read(reply: &[u8]) -> ReplyHeaderRead
-        ensures { header_says result ≡ header_in reply.now }
+    pub fn try_read(reply: &[u8]) -> Result<ReplyHeader, Refusal>
+        ensures { says result ≡ header_in reply.now }
     {
         if reply.len() < 4 {
-            return ReplyHeaderRead::Refused(Refusal::Malformed);
+            return Err(Refusal::Malformed);
         }
         let seq = read_u8(reply, 0);
         let status = read_u8(reply, seq.next);
         let nwk_addr_of_interest = read_u16(reply, status.next);
-        ReplyHeaderRead::Header(ReplyHeader {
+        Ok(ReplyHeader {
             seq: seq.value,
             status: status.value,
             nwk_addr_of_interest: ShortAddress(nwk_addr_of_interest.value),
@@ -53,49 +45,32 @@ impl ReplyHeader {
 #[derive(Clone, Copy)]
 pub struct NodeReply {
     pub header: ReplyHeader,
-    pub descriptor: OptionNodeDescriptor,
-}
-
-#[derive(Clone, Copy)]
-pub enum OptionNodeDescriptor {
-    Some(NodeDescriptor),
-    None,
-}
-
-#[derive(Clone, Copy)]
-pub enum NodeReplyRead {
-    Reply(NodeReply),
-    Refused(Refusal),
+    pub descriptor: Option<NodeDescriptor>,
 }
 
 impl NodeReply {
     // Reads a Node_Desc_rsp (2.4.4.2.3): with SUCCESS the descriptor stands from byte 4 on, with another status there is none.
-    pub fn try_read(reply: &[u8]) -> NodeReplyRead
-        ensures { node_reply_says result ≡ node_reply_in reply.now }
+    pub fn try_read(reply: &[u8]) -> Result<NodeReply, Refusal>
+        ensures { says result ≡ node_reply_in reply.now }
     {
-        let read = ReplyHeader::try_read(reply);
-        match read {
-            ReplyHeaderRead::Header(header) => {
-                if header.status != STATUS_SUCCESS {
-                    let descriptor = OptionNodeDescriptor::None;
-                    return NodeReplyRead::Reply(NodeReply { header, descriptor });
-                }
-                NodeReply::with(header, NodeDescriptor::try_read(&reply[4..]))
+        let header = ReplyHeader::try_read(reply)?;
+            if header.status != STATUS_SUCCESS {
+                let descriptor = None;
+                return Ok(NodeReply { header, descriptor });
             }
-            ReplyHeaderRead::Refused(why) => NodeReplyRead::Refused(why),
-        }
+            NodeReply::with(header, NodeDescriptor::try_read(&reply[4..]))
     }
 
     // The reply that has this header and the descriptor that was read; refused where that was.
-    fn with(header: ReplyHeader, read: NodeDescriptorRead) -> NodeReplyRead
-        ensures { node_reply_says result ≡ mapped (node_with header) (node_says read) }
+    fn with(header: ReplyHeader, read: Result<NodeDescriptor, Refusal>) -> Result<NodeReply, Refusal>
+        ensures { says result ≡ mapped (node_with header) (says read) }
     {
         match read {
-            NodeDescriptorRead::Descriptor(descriptor) => {
-                let descriptor = OptionNodeDescriptor::Some(descriptor);
-                NodeReplyRead::Reply(NodeReply { header, descriptor })
+            Ok(descriptor) => {
+                let descriptor = Some(descriptor);
+                Ok(NodeReply { header, descriptor })
             }
-            NodeDescriptorRead::Refused(why) => NodeReplyRead::Refused(why),
+            Err(why) => Err(why),
         }
     }
 }
@@ -106,49 +81,32 @@ impl NodeReply {
 #[derive(Clone, Copy)]
 pub struct PowerReply {
     pub header: ReplyHeader,
-    pub descriptor: OptionPowerDescriptor,
-}
-
-#[derive(Clone, Copy)]
-pub enum OptionPowerDescriptor {
-    Some(NodePowerDescriptor),
-    None,
-}
-
-#[derive(Clone, Copy)]
-pub enum PowerReplyRead {
-    Reply(PowerReply),
-    Refused(Refusal),
+    pub descriptor: Option<NodePowerDescriptor>,
 }
 
 impl PowerReply {
     // Reads a Power_Desc_rsp (2.4.4.2.4): with SUCCESS the descriptor stands from byte 4 on, with another status there is none.
-    pub fn try_read(reply: &[u8]) -> PowerReplyRead
-        ensures { power_reply_says result ≡ power_reply_in reply.now }
+    pub fn try_read(reply: &[u8]) -> Result<PowerReply, Refusal>
+        ensures { says result ≡ power_reply_in reply.now }
     {
-        let read = ReplyHeader::try_read(reply);
-        match read {
-            ReplyHeaderRead::Header(header) => {
-                if header.status != STATUS_SUCCESS {
-                    let descriptor = OptionPowerDescriptor::None;
-                    return PowerReplyRead::Reply(PowerReply { header, descriptor });
-                }
-                PowerReply::with(header, NodePowerDescriptor::try_read(&reply[4..]))
+        let header = ReplyHeader::try_read(reply)?;
+            if header.status != STATUS_SUCCESS {
+                let descriptor = None;
+                return Ok(PowerReply { header, descriptor });
             }
-            ReplyHeaderRead::Refused(why) => PowerReplyRead::Refused(why),
-        }
+            PowerReply::with(header, NodePowerDescriptor::try_read(&reply[4..]))
     }
 
     // The reply that has this header and the descriptor that was read; refused where that was.
-    fn with(header: ReplyHeader, read: NodePowerDescriptorRead) -> PowerReplyRead
-        ensures { power_reply_says result ≡ mapped (power_with header) (power_says read) }
+    fn with(header: ReplyHeader, read: Result<NodePowerDescriptor, Refusal>) -> Result<PowerReply, Refusal>
+        ensures { says result ≡ mapped (power_with header) (says read) }
     {
         match read {
-            NodePowerDescriptorRead::Descriptor(descriptor) => {
-                let descriptor = OptionPowerDescriptor::Some(descriptor);
-                PowerReplyRead::Reply(PowerReply { header, descriptor })
+            Ok(descriptor) => {
+                let descriptor = Some(descriptor);
+                Ok(PowerReply { header, descriptor })
             }
-            NodePowerDescriptorRead::Refused(why) => PowerReplyRead::Refused(why),
+            Err(why) => Err(why),
         }
     }
 }
@@ -162,7 +120,7 @@ pub struct AddrReply {
     pub status: u8,
     pub ieee_addr: IeeeAddress,
     pub nwk_addr: ShortAddress,
-    pub associated: OptionAssociated,
+    pub associated: Option<Associated>,
 }
 
 // What an extended address reply adds: how many devices are associated, the index asked for, and where short addresses stand, two bytes
@@ -174,33 +132,21 @@ pub struct Associated {
     pub devices: Places,
 }
 
-#[derive(Clone, Copy)]
-pub enum OptionAssociated {
-    Some(Associated),
-    None,
-}
-
-#[derive(Clone, Copy)]
-pub enum AddrReplyRead {
-    Reply(AddrReply),
-    Refused(Refusal),
-}
-
 impl AddrReply {
     // Reads a NWK_addr_rsp or IEEE_addr_rsp (2.4.4.2.1, 2.4.4.2.2): seq, status, IEEEAddr(8), NWKAddr(2), and what an extended one
     // adds.
-    pub fn try_read(reply: &[u8]) -> AddrReplyRead
-        ensures { addr_reply_says result ≡ addr_reply_in reply.now }
+    pub fn try_read(reply: &[u8]) -> Result<AddrReply, Refusal>
+        ensures { says result ≡ addr_reply_in reply.now }
     {
         if reply.len() < 12 {
-            return AddrReplyRead::Refused(Refusal::Malformed);
+            return Err(Refusal::Malformed);
         }
         let seq = read_u8(reply, 0);
         let status = read_u8(reply, seq.next);
         let ieee_addr = read_u64(reply, status.next);
         let nwk_addr = read_u16(reply, ieee_addr.next);
         let associated = read_associated(reply, status.value);
-        AddrReplyRead::Reply(AddrReply {
+        Ok(AddrReply {
             seq: seq.value,
             status: status.value,
             ieee_addr: IeeeAddress(ieee_addr.value),
@@ -213,20 +159,20 @@ impl AddrReply {
 // What stands behind the two addresses, if the status is SUCCESS and there are two bytes more: NumAssocDev, StartIndex, and short
 // addresses up to the end, a single last byte ignored.
 #[tactic(auto, using(crate::proofs::Longer::associated_laws))]
-fn read_associated(reply: &[u8], status: u8) -> OptionAssociated
+fn read_associated(reply: &[u8], status: u8) -> Option<Associated>
     ensures { result ≡ associated_in (goes_further status reply.now) reply.now }
 {
     if status != STATUS_SUCCESS {
-        return OptionAssociated::None;
+        return None;
     }
     if reply.len() < 14 {
-        return OptionAssociated::None;
+        return None;
     }
     let num_assoc_dev = read_u8(reply, 12);
     let start_index = read_u8(reply, num_assoc_dev.next);
     let start = start_index.next;
     let count = (reply.len() - start) / 2;
-    OptionAssociated::Some(Associated {
+    Some(Associated {
         num_assoc_dev: num_assoc_dev.value,
         start_index: start_index.value,
         devices: Places { start, count },
@@ -242,24 +188,18 @@ pub struct StatusReply {
     pub status: u8,
 }
 
-#[derive(Clone, Copy)]
-pub enum StatusReplyRead {
-    Reply(StatusReply),
-    Refused(Refusal),
-}
-
 impl StatusReply {
     // Reads a Bind_rsp, Unbind_rsp or Mgmt_Leave_rsp: seq, status.
     #[tactic(auto, using(crate::proofs::Status::status_short, crate::proofs::Status::status_parse))]
-    pub fn try_read(reply: &[u8]) -> StatusReplyRead
-        ensures { status_reply_says result ≡ status_reply_in reply.now }
+    pub fn try_read(reply: &[u8]) -> Result<StatusReply, Refusal>
+        ensures { says result ≡ status_reply_in reply.now }
     {
         if reply.len() < 2 {
-            return StatusReplyRead::Refused(Refusal::Malformed);
+            return Err(Refusal::Malformed);
         }
         let seq = read_u8(reply, 0);
         let status = read_u8(reply, seq.next);
-        StatusReplyRead::Reply(StatusReply {
+        Ok(StatusReply {
             seq: seq.value,
             status: status.value,
         })

@@ -1,13 +1,13 @@
 // The reasons that replies give, and the replies that are a status alone (000).
 ghost use Rattle.std.specs.Prelude.{◌≡◌};
 ghost use Rattle.zigbee_types.specs.Outcome.{Wrote};
-ghost use Rattle.zigbee_types.specs.Answers.{written_says};
+ghost use Rattle.zigbee_types.specs.Answers.{says};
 ghost use Rattle.zdo_replies.specs.Codes.{bind_code, discovery_code, leave_status};
 ghost use Rattle.zdo_replies.specs.Replies.{status_rsp};
 
 use crate::management::NlmeLeaveStatus;
 use byte::write_u8;
-use zigbee_types::{Refusal, Written};
+use zigbee_types::Refusal;
 
 // ZDP status codes (2.4.5).
 pub const STATUS_SUCCESS: u8 = 0x00;
@@ -94,27 +94,27 @@ pub fn leave_status(status: NlmeLeaveStatus) -> u8
 // ---- bind, unbind and leave
 
 // Builds a reply of seq and status alone.
-fn status_rsp(seq: u8, status: u8, out: &mut [u8]) -> Written
-    ensures { Wrote (status_rsp seq status) out.old (written_says result) out.new }
+fn status_rsp(seq: u8, status: u8, out: &mut [u8]) -> Result<usize, Refusal>
+    ensures { Wrote (status_rsp seq status) out.old (says result) out.new }
 {
     if out.len() < 2 {
-        return Written::Refused(Refusal::ShortBuffer);
+        return Err(Refusal::ShortBuffer);
     }
     let at = write_u8(out, 0, seq);
     let at = write_u8(out, at, status);
-    Written::Length(at)
+    Ok(at)
 }
 
 // Builds a Bind_rsp or Unbind_rsp (2.4.4.3.2, 2.4.4.3.3): seq, status.
-pub fn bind_rsp(seq: u8, status: BindStatus, out: &mut [u8]) -> Written
-    ensures { Wrote (status_rsp seq (bind_code status)) out.old (written_says result) out.new }
+pub fn bind_rsp(seq: u8, status: BindStatus, out: &mut [u8]) -> Result<usize, Refusal>
+    ensures { Wrote (status_rsp seq (bind_code status)) out.old (says result) out.new }
 {
     status_rsp(seq, status.code(), out)
 }
 
 // Builds a Mgmt_Leave_rsp (2.4.4.4.5): seq, status.
-pub fn mgmt_leave_rsp(seq: u8, status: u8, out: &mut [u8]) -> Written
-    ensures { Wrote (status_rsp seq status) out.old (written_says result) out.new }
+pub fn mgmt_leave_rsp(seq: u8, status: u8, out: &mut [u8]) -> Result<usize, Refusal>
+    ensures { Wrote (status_rsp seq status) out.old (says result) out.new }
 {
     status_rsp(seq, status, out)
 }

@@ -1,3 +1,2 @@
 pub mod Clusters
 pub mod Requests
-pub mod Answers

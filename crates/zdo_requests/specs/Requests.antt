@@ -1,6 +1,6 @@
 -- The ten requests, from bytes to fields, and the node request as it is written (document 01, "Payloads"; 2.4.3). A payload that
 -- is shorter than its fields and lists is refusal 3, and bytes behind them are ignored.
-use Rattle.std.specs.Prelude.{ℕ, ◌+◌, cond, List, [], ◌∷◌, eqb}
+use Rattle.std.specs.Prelude.{ℕ, ◌+◌, cond, List, [], ◌∷◌, eqb, Option, Some, None}
 use Rattle.zigbee_types.specs.Outcome.{Outcome, answer, refusal, mapped, needing}
 use Rattle.zigbee_types.specs.Bytes.{number_at, bit_at}
 use Rattle.zigbee_types.specs.Layout.{Field, byte, laid, field_of, parsed, lists_in}
@@ -18,8 +18,6 @@ use Rattle.zdo_requests.specs.declared.descriptor.BindReq.{BindReq}
 use Rattle.zdo_requests.specs.declared.descriptor.BindReqDestination.{BindReqDestination}
 use Rattle.zdo_requests.specs.declared.descriptor.BindReqDestination.TheVariants.{Group, Device}
 use Rattle.zdo_requests.specs.declared.descriptor.MgmtLeaveReq.{MgmtLeaveReq}
-use Rattle.zdo_requests.specs.declared.descriptor.OptionIeeeAddress.{OptionIeeeAddress}
-use Rattle.zdo_requests.specs.declared.descriptor.OptionIeeeAddress.TheVariants.{Some, None}
 
 -- 2.4.3.1.1: seq, IEEE address, type; StartIndex is not read
 unfoldable pub nwk_addr_req_in : List ℕ → Outcome NwkAddrReq
@@ -105,7 +103,7 @@ unfoldable pub binding_of : BindReq → Binding
 binding_of q = binding_to q.src_endpoint q.cluster_id q.destination
 
 -- an IEEE address of zero means none
-unfoldable pub option_ieee : ℕ → OptionIeeeAddress
+unfoldable pub option_ieee : ℕ → Option IeeeAddress
 option_ieee n = cond (eqb n 0) None (Some (ieee_of n))
 
 -- 2.4.3.3.5: seq, IEEE address, options: bit 6 children, bit 7 rejoin

@@ -1,13 +1,12 @@
 // Requests as they are parsed, and the one that is written (000).
 ghost use Rattle.std.specs.Prelude.{◌≡◌};
 ghost use Rattle.zigbee_types.specs.Outcome.{Wrote};
-ghost use Rattle.zigbee_types.specs.Answers.{written_says};
+ghost use Rattle.zigbee_types.specs.Answers.{says};
 ghost use Rattle.zdo_requests.specs.Requests.{nwk_addr_req_in, ieee_addr_req_in, addr_of_interest_req_in, addr_of_interest_in, simple_desc_req_in, node_desc_req, binding_of};
-ghost use Rattle.zdo_requests.specs.Answers.{nwk_addr_req_says, ieee_addr_req_says, addr_of_interest_req_says, addr_of_interest_says, simple_desc_req_says};
 
 use aps_binding::binding::Binding;
 use byte::{read_u8, read_u16, read_u64, write_u8, write_u16};
-use zigbee_types::{GroupAddress, IeeeAddress, Places, Refusal, ShortAddress, Written};
+use zigbee_types::{GroupAddress, IeeeAddress, Places, Refusal, ShortAddress};
 
 // ZDP request cluster identifiers (2.4.3).
 pub const NWK_ADDR_REQ: u16 = 0x0000;
@@ -142,82 +141,26 @@ impl BindReq {
 pub struct MgmtLeaveReq {
     pub seq: u8,
     // Device to remove; `None` for the NULL address, which targets the recipient itself.
-    pub device_address: OptionIeeeAddress,
+    pub device_address: Option<IeeeAddress>,
     pub remove_children: bool,
     pub rejoin: bool,
 }
 
-// An IEEE address, or none.
-#[derive(Clone, Copy)]
-pub enum OptionIeeeAddress {
-    Some(IeeeAddress),
-    None,
-}
-
 // ---- what a parser answers: the request, or why there is none
-
-#[derive(Clone, Copy)]
-pub enum NwkAddrReqRead {
-    Request(NwkAddrReq),
-    Refused(Refusal),
-}
-
-#[derive(Clone, Copy)]
-pub enum IeeeAddrReqRead {
-    Request(IeeeAddrReq),
-    Refused(Refusal),
-}
-
-#[derive(Clone, Copy)]
-pub enum AddrOfInterestReqRead {
-    Request(AddrOfInterestReq),
-    Refused(Refusal),
-}
-
-// The address that a request is about, or why there is none.
-#[derive(Clone, Copy)]
-pub enum AddrOfInterestRead {
-    Address(ShortAddress),
-    Refused(Refusal),
-}
-
-#[derive(Clone, Copy)]
-pub enum SimpleDescReqRead {
-    Request(SimpleDescReq),
-    Refused(Refusal),
-}
-
-#[derive(Clone, Copy)]
-pub enum MatchDescReqRead {
-    Request(MatchDescReq),
-    Refused(Refusal),
-}
-
-#[derive(Clone, Copy)]
-pub enum BindReqRead {
-    Request(BindReq),
-    Refused(Refusal),
-}
-
-#[derive(Clone, Copy)]
-pub enum MgmtLeaveReqRead {
-    Request(MgmtLeaveReq),
-    Refused(Refusal),
-}
 
 // ---- addresses
 
 // Parses a NWK_addr_req (2.4.3.1.1): seq, IEEEAddress(8), RequestType(1). StartIndex is not read.
-pub fn parse_nwk_addr_req(asdu: &[u8]) -> NwkAddrReqRead
-    ensures { nwk_addr_req_says result ≡ nwk_addr_req_in asdu.now }
+pub fn parse_nwk_addr_req(asdu: &[u8]) -> Result<NwkAddrReq, Refusal>
+    ensures { says result ≡ nwk_addr_req_in asdu.now }
 {
     if asdu.len() < 10 {
-        return NwkAddrReqRead::Refused(Refusal::Malformed);
+        return Err(Refusal::Malformed);
     }
     let seq = read_u8(asdu, 0);
     let ieee_addr = read_u64(asdu, seq.next);
     let request_type = read_u8(asdu, ieee_addr.next);
-    NwkAddrReqRead::Request(NwkAddrReq {
+    Ok(NwkAddrReq {
         seq: seq.value,
         ieee_addr: IeeeAddress(ieee_addr.value),
         request_type: request_type.value,
@@ -225,16 +168,16 @@ pub fn parse_nwk_addr_req(asdu: &[u8]) -> NwkAddrReqRead
 }
 
 // Parses an IEEE_addr_req (2.4.3.1.2): seq, NWKAddrOfInterest(2), RequestType(1). StartIndex is not read.
-pub fn parse_ieee_addr_req(asdu: &[u8]) -> IeeeAddrReqRead
-    ensures { ieee_addr_req_says result ≡ ieee_addr_req_in asdu.now }
+pub fn parse_ieee_addr_req(asdu: &[u8]) -> Result<IeeeAddrReq, Refusal>
+    ensures { says result ≡ ieee_addr_req_in asdu.now }
 {
     if asdu.len() < 4 {
-        return IeeeAddrReqRead::Refused(Refusal::Malformed);
+        return Err(Refusal::Malformed);
     }
     let seq = read_u8(asdu, 0);
     let nwk_addr_of_interest = read_u16(asdu, seq.next);
     let request_type = read_u8(asdu, nwk_addr_of_interest.next);
-    IeeeAddrReqRead::Request(IeeeAddrReq {
+    Ok(IeeeAddrReq {
         seq: seq.value,
         nwk_addr_of_interest: ShortAddress(nwk_addr_of_interest.value),
         request_type: request_type.value,
@@ -244,46 +187,41 @@ pub fn parse_ieee_addr_req(asdu: &[u8]) -> IeeeAddrReqRead
 // ---- the address of interest
 
 // Parses a Node_Desc_req, Power_Desc_req or Active_EP_req (2.4.3.1.3, 2.4.3.1.4, 2.4.3.1.6): seq, NWKAddrOfInterest(2).
-#[tactic(auto, using(zigbee_types::proofs::Runs::run_short), unfolding(zigbee_types::specs::Layout::size, crate::specs::Requests::addr_of_interest_widths, crate::specs::Requests::addr_of_interest_req_in, crate::specs::Answers::addr_of_interest_req_says))]
-pub fn parse_addr_of_interest_req(asdu: &[u8]) -> AddrOfInterestReqRead
-    ensures { addr_of_interest_req_says result ≡ addr_of_interest_req_in asdu.now }
+#[tactic(auto, using(zigbee_types::proofs::Runs::run_short), unfolding(zigbee_types::specs::Layout::size, crate::specs::Requests::addr_of_interest_widths, crate::specs::Requests::addr_of_interest_req_in, zigbee_types::specs::Answers::says))]
+pub fn parse_addr_of_interest_req(asdu: &[u8]) -> Result<AddrOfInterestReq, Refusal>
+    ensures { says result ≡ addr_of_interest_req_in asdu.now }
 {
     if asdu.len() < 3 {
-        return AddrOfInterestReqRead::Refused(Refusal::Malformed);
+        return Err(Refusal::Malformed);
     }
     let seq = read_u8(asdu, 0);
     let nwk_addr_of_interest = read_u16(asdu, seq.next);
-    AddrOfInterestReqRead::Request(AddrOfInterestReq {
+    Ok(AddrOfInterestReq {
         seq: seq.value,
         nwk_addr_of_interest: ShortAddress(nwk_addr_of_interest.value),
     })
 }
 
 // Reads the NWKAddrOfInterest a discovery request is about (2.4.3.1.3 to 2.4.3.1.6); of a simple request it needs no endpoint.
-pub fn parse_addr_of_interest(asdu: &[u8]) -> AddrOfInterestRead
-    ensures { addr_of_interest_says result ≡ addr_of_interest_in asdu.now }
+pub fn parse_addr_of_interest(asdu: &[u8]) -> Result<ShortAddress, Refusal>
+    ensures { says result ≡ addr_of_interest_in asdu.now }
 {
-    let read = parse_addr_of_interest_req(asdu);
-    match read {
-        AddrOfInterestReqRead::Request(request) => {
-            let nwk_addr_of_interest = request.nwk_addr_of_interest;
-            AddrOfInterestRead::Address(nwk_addr_of_interest)
-        }
-        AddrOfInterestReqRead::Refused(why) => AddrOfInterestRead::Refused(why),
-    }
+    let request = parse_addr_of_interest_req(asdu)?;
+        let nwk_addr_of_interest = request.nwk_addr_of_interest;
+        Ok(nwk_addr_of_interest)
 }
 
 // Parses a Simple_Desc_req (2.4.3.1.5): seq, NWKAddrOfInterest(2), EndPoint(1).
-pub fn parse_simple_desc_req(asdu: &[u8]) -> SimpleDescReqRead
-    ensures { simple_desc_req_says result ≡ simple_desc_req_in asdu.now }
+pub fn parse_simple_desc_req(asdu: &[u8]) -> Result<SimpleDescReq, Refusal>
+    ensures { says result ≡ simple_desc_req_in asdu.now }
 {
     if asdu.len() < 4 {
-        return SimpleDescReqRead::Refused(Refusal::Malformed);
+        return Err(Refusal::Malformed);
     }
     let seq = read_u8(asdu, 0);
     let nwk_addr_of_interest = read_u16(asdu, seq.next);
     let endpoint = read_u8(asdu, nwk_addr_of_interest.next);
-    SimpleDescReqRead::Request(SimpleDescReq {
+    Ok(SimpleDescReq {
         seq: seq.value,
         nwk_addr_of_interest: ShortAddress(nwk_addr_of_interest.value),
         endpoint: endpoint.value,
@@ -292,14 +230,14 @@ pub fn parse_simple_desc_req(asdu: &[u8]) -> SimpleDescReqRead
 
 // Writes a Node_Desc_req (2.4.3.1.3) at the front of a buffer: seq, NWKAddrOfInterest(2). Too short a buffer is refused, and
 // nothing is written.
-#[tactic(auto, using(crate::proofs::Written::request_cut), unfolding(zigbee_types::specs::Outcome::mapped, zigbee_types::specs::Outcome::written, zigbee_types::specs::Answers::written_says))]
-pub fn node_desc_req(seq: u8, nwk_addr_of_interest: ShortAddress, out: &mut [u8]) -> Written
-    ensures { Wrote (node_desc_req seq nwk_addr_of_interest) out.old (written_says result) out.new }
+#[tactic(auto, using(crate::proofs::Written::request_cut), unfolding(zigbee_types::specs::Outcome::mapped, zigbee_types::specs::Outcome::written, zigbee_types::specs::Answers::says))]
+pub fn node_desc_req(seq: u8, nwk_addr_of_interest: ShortAddress, out: &mut [u8]) -> Result<usize, Refusal>
+    ensures { Wrote (node_desc_req seq nwk_addr_of_interest) out.old (says result) out.new }
 {
     if out.len() < 3 {
-        return Written::Refused(Refusal::ShortBuffer);
+        return Err(Refusal::ShortBuffer);
     }
     let at = write_u8(out, 0, seq);
     let at = write_u16(out, at, nwk_addr_of_interest.0);
-    Written::Length(at)
+    Ok(at)
 }

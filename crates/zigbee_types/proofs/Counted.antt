@@ -1,4 +1,5 @@
 -- Two counted lists in a frame: where they stand, and why they are refused. Assumes nothing.
+use Rattle.std.specs.Prelude.{Ok, Err}
 use Prim.Native.Nat.{ℕ, ◌+◌, ◌*◌, ◌≤◌, ◌<◌}
 use native.Mathlib.Omega.{arith}
 use mathlib.Core.Path.{◌≡◌, refl, sym}
@@ -9,11 +10,10 @@ use borrow.Author.Tests.{leb-true, le-leb, lt-leb}
 use Rattle.zigbee_types.specs.Outcome.{needing}
 use Rattle.zigbee_types.specs.Bytes.{FieldRead}
 use Rattle.zigbee_types.specs.Layout.{counted, behind, ListRead, lists_in}
-use Rattle.zigbee_types.specs.Answers.{lists_says}
+use Rattle.zigbee_types.specs.Answers.{says}
 use Rattle.zigbee_types.specs.declared.Refusal.TheVariants.{Malformed}
 use Rattle.zigbee_types.specs.declared.Places.{Places}
 use Rattle.zigbee_types.specs.declared.ClusterLists.{ClusterLists}
-use Rattle.zigbee_types.specs.declared.ClusterListsRead.TheVariants.{Lists, Refused}
 use Rattle.zigbee_types.proofs.Outcomes.{granted}
 
 -- a byte that was read counts the list behind it
@@ -38,16 +38,16 @@ module _ (bytes : List ℕ) (at : ℕ) where
       → ListRead 2 bytes at p m
       → ListRead 2 bytes m q n
       → length bytes < n
-      → lists_says (Refused Malformed) ≡ lists_in bytes at
-  unfolding lists_says lists_in needing
+      → says (Err Malformed) ≡ lists_in bytes at
+  unfolding says lists_in needing
   lists_cut p q h = rw (← p.told, ← p.moved, ← q.told, ← q.moved, lt-leb _ _ h)
 
   -- also where the second count does
-  pub lists_one : {m : ℕ} {p : Places} → ListRead 2 bytes at p m → length bytes ≤ m → lists_says (Refused Malformed) ≡ lists_in bytes at
+  pub lists_one : {m : ℕ} {p : Places} → ListRead 2 bytes at p m → length bytes ≤ m → says (Err Malformed) ≡ lists_in bytes at
   lists_one {m} p h = let q = list_there 2 bytes m in lists_cut p q (omega (arith, list_past 2 q))
 
   -- and where the first does
-  pub lists_none : length bytes ≤ at → lists_says (Refused Malformed) ≡ lists_in bytes at
+  pub lists_none : length bytes ≤ at → says (Err Malformed) ≡ lists_in bytes at
   lists_none h = let p = list_there 2 bytes at in lists_one p (omega (arith, list_past 2 p))
 
   -- otherwise they stand there
@@ -56,13 +56,13 @@ module _ (bytes : List ℕ) (at : ℕ) where
       → ListRead 2 bytes at p m
       → ListRead 2 bytes m q n
       → n ≤ length bytes
-      → lists_says (Lists (record { input_clusters = p; output_clusters = q })) ≡ lists_in bytes at
-  unfolding lists_says lists_in needing
+      → says (Ok (record { input_clusters = p; output_clusters = q })) ≡ lists_in bytes at
+  unfolding says lists_in needing
   lists_whole p q h = rw (← p.told, ← p.moved, ← q.told, ← q.moved, le-leb _ _ h)
 
   -- so the counts of lists that were read are there
-  pub lists_long : (lists : ClusterLists) → lists_says (Lists lists) ≡ lists_in bytes at → at + 2 ≤ length bytes
-  unfolding lists_says lists_in needing
+  pub lists_long : (lists : ClusterLists) → says (Ok lists) ≡ lists_in bytes at → at + 2 ≤ length bytes
+  unfolding says lists_in needing
   lists_long lists h =
       let first : ℕ = behind 2 (counted bytes at) in
       let last : ℕ = behind 2 (counted bytes first) in

@@ -11,3 +11,4 @@ pub mod Named
 pub mod Elements
 pub mod Scans
 pub mod OneOutcome
+pub mod Passed

@@ -1,10 +1,10 @@
 -- Searches through a list: a step from the front, where the first element decides or what is behind it does; one more element at the
 -- end; and what a test of all says of one. And a test that is turned round. Assumes nothing.
+use Rattle.std.specs.Prelude.{None, Some}
 use Prim.Native.Nat.{ℕ, zero, suc}
 use mathlib.Core.Path.{◌≡◌, refl, sym, ◌∙◌}
 use mathlib.Core.Bool.{Bool, true, false, not, cond, and-eq-true_iff}
 use mathlib.Core.List.{List, [], ◌∷◌, ◌++◌}
-use mathlib.Core.Option.{none, some}
 use lib.ListN.{drop}
 use borrow.Author.Tests.{not-true, not-false}
 use Rattle.zigbee_types.specs.Lists.{any, all, filter, find}
@@ -27,7 +27,7 @@ module _ {A : Type 0} (p : A → Bool) where
     unfolding all
     all_next t = rw (e, t)
 
-    pub find_here : p x ≡ true → find p xs ≡ some x
+    pub find_here : p x ≡ true → find p xs ≡ Some x
     unfolding find
     find_here t = rw (e, t)
 
@@ -44,7 +44,7 @@ module _ {A : Type 0} (p : A → Bool) where
     unfolding all
     all_end = rw e
 
-    pub find_end : find p xs ≡ none
+    pub find_end : find p xs ≡ None
     unfolding find
     find_end = rw e
 
@@ -66,12 +66,12 @@ module _ {A : Type 0} (p : A → Bool) where
   all_left (suc i) (y ∷ xs) e t = all_left i xs e ((and-eq-true_iff (p y) (all p xs)).0 t).1
 
   -- where all elements pass a test, so does one that is found by another
-  pub find_all : (q : A → Bool) (xs : List A) {x : A} → all q xs ≡ true → find p xs ≡ some x → q x ≡ true
+  pub find_all : (q : A → Bool) (xs : List A) {x : A} → all q xs ≡ true → find p xs ≡ Some x → q x ≡ true
   unfolding all find
   find_all q [] t e = cc
   find_all q (y ∷ xs) {x} t e = go (p y) ((and-eq-true_iff (q y) (all q xs)).0 t) (find_all q xs) e
     where
-      go : (b : Bool) → (q y ≡ true) × (all q xs ≡ true) → (all q xs ≡ true → find p xs ≡ some x → q x ≡ true) → cond b (some y) (find p xs) ≡ some x → q x ≡ true
+      go : (b : Bool) → (q y ≡ true) × (all q xs ≡ true) → (all q xs ≡ true → find p xs ≡ Some x → q x ≡ true) → cond b (Some y) (find p xs) ≡ Some x → q x ≡ true
       go true (h, k) behind f = let same : y ≡ x = cc in rw same at h
       go false (h, k) behind f = behind k f
 

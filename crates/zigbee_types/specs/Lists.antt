@@ -1,13 +1,12 @@
 -- Parts of lists, and searches in them.
-use Rattle.std.specs.Prelude.{ℕ, Bool, true, false, ◌||◌, ◌&&◌, cond, List, [], ◌∷◌, take, drop}
-use Rattle.std.proofs.Math.Option.{Option, none, some}
+use Rattle.std.specs.Prelude.{ℕ, Bool, true, false, ◌||◌, ◌&&◌, cond, List, [], ◌∷◌, take, drop, Option, Some, None}
 
 module _ {A : Type 0} where
   -- n elements from a start on
   abbrev pub part : ℕ → ℕ → List A → List A
   part start n xs = take n (drop start xs)
 
-  -- does some element pass the test?
+  -- does Some element pass the test?
   unfoldable pub any : (A → Bool) → List A → Bool
   any p [] = false
   any p (x ∷ xs) = p x || any p xs
@@ -26,10 +25,10 @@ module _ {A : Type 0} where
 
   -- the first element that passes the test
   unfoldable pub find : (A → Bool) → List A → Option A
-  find p [] = none
-  find p (x ∷ xs) = cond (p x) (some x) (find p xs)
+  find p [] = None
+  find p (x ∷ xs) = cond (p x) (Some x) (find p xs)
 
 -- f of what is there, and d where nothing is
 unfoldable pub option : {A B : Type 0} → B → (A → B) → Option A → B
-option d f none = d
-option d f (some a) = f a
+option d f None = d
+option d f (Some a) = f a

@@ -31,20 +31,6 @@ pub struct ClusterLists {
     pub output_clusters: Places,
 }
 
-// Two lists of clusters that were read, or why none were.
-#[derive(Clone, Copy)]
-pub enum ClusterListsRead {
-    Lists(ClusterLists),
-    Refused(Refusal),
-}
-
-// How many bytes were written, or why none were.
-#[derive(Clone, Copy)]
-pub enum Written {
-    Length(usize),
-    Refused(Refusal),
-}
-
 // Why a call was refused (document 01, "Refusal numbers").
 #[derive(Clone, Copy)]
 pub enum Refusal {

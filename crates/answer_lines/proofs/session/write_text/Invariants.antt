@@ -1,7 +1,7 @@
 -- `write_text` meets its contract. The loop's invariant: the first i characters were copied. The measure is how many are left. Assumes
 -- nothing.
 use Rattle.std.proofs.Common.{length, ◌-◌, ℕ, ◌≤◌, ◌≡◌, take, drop, replicate, ◌+◌, ◌*◌, ◌<◌}
-use Rattle.zigbee_types.specs.Answers.{written_says}
+use Rattle.zigbee_types.specs.Answers.{says}
 use Rattle.zigbee_types.specs.Outcome.{answer, Wrote}
 use Rattle.zigbee_types.specs.Refusals.{refusal_number}
 use Rattle.lines.specs.Chunks.{found_line}

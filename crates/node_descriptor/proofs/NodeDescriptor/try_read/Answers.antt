@@ -2,15 +2,16 @@
 use borrow.Author.Rules.{rules}
 use Rattle.zigbee_types.specs.Layout.{size}
 use Rattle.zigbee_types.proofs.Runs.{run_read_none, run_read_more, run_parses, run_short}
-use Rattle.node_descriptor.specs.NodeDescriptor.{node_widths, node_descriptor_in, node_says}
+use Rattle.node_descriptor.specs.NodeDescriptor.{node_widths, node_descriptor_in}
+use Rattle.zigbee_types.specs.Answers.{says}
 use Rattle.node_descriptor.proofs.NodeDescriptor.try_read.Goals as goal
 
 pub returns-then-bytes-lt-NODE_DESCRIPTOR_SIZE : goal.returns-then-bytes-lt-NODE_DESCRIPTOR_SIZE
-unfolding size node_widths node_descriptor_in node_says
+unfolding size node_widths node_descriptor_in says
 returns-then-bytes-lt-NODE_DESCRIPTOR_SIZE c = search (rules, run_short)
 
 pub returns : goal.returns
-unfolding size node_widths node_descriptor_in node_says
+unfolding size node_widths node_descriptor_in says
 returns c =
     run_parses _
     (run_read_more c.read_u8-byte0.ensures

@@ -1,6 +1,6 @@
 -- `addr_rsp_single` meets its contract: the addresses are put. Assumes nothing.
 use borrow.Author.Rules.{rules}
-use Rattle.zigbee_types.specs.Answers.{written_says}
+use Rattle.zigbee_types.specs.Answers.{says}
 use Rattle.zigbee_types.specs.Layout.{size}
 use Rattle.zigbee_types.proofs.Runs.{run_full}
 use Rattle.zdo_replies.specs.Replies.{addr_header, addr_rsp_single}
@@ -10,9 +10,9 @@ use Rattle.zdo_addr_rsp.proofs.descriptor.addr_rsp_single.Goals as goal
 ruleset laws = (rules, run_full, single_writes)
 
 pub returns-then-out-lt12 : goal.returns-then-out-lt12
-unfolding written_says size addr_header addr_rsp_single
+unfolding says size addr_header addr_rsp_single
 returns-then-out-lt12 c = search laws
 
 pub returns : goal.returns
-unfolding written_says size addr_header addr_rsp_single
+unfolding says size addr_header addr_rsp_single
 returns c = search laws

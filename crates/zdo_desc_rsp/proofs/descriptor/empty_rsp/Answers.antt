@@ -1,6 +1,6 @@
 -- `empty_rsp` meets its contract: the header is put, and a zero behind it. Assumes nothing.
 use borrow.Author.Rules.{rules}
-use Rattle.zigbee_types.specs.Answers.{written_says}
+use Rattle.zigbee_types.specs.Answers.{says}
 use Rattle.zigbee_types.specs.Bytes.{le}
 use Rattle.zigbee_types.specs.Layout.{laid, size}
 use Rattle.zigbee_types.proofs.Runs.{run_full}
@@ -11,13 +11,13 @@ use Rattle.zdo_desc_rsp.proofs.descriptor.empty_rsp.Goals as goal
 ruleset laws = (rules, run_full, empty_writes)
 
 pub returns-then-out-lt5 : goal.returns-then-out-lt5
-unfolding written_says size laid le header empty_rsp
+unfolding says size laid le header empty_rsp
 returns-then-out-lt5 c = search laws
 
 pub write_u8-at-requires : goal.write_u8-at-requires
-unfolding written_says size laid le header empty_rsp
+unfolding says size laid le header empty_rsp
 write_u8-at-requires c = search laws
 
 pub returns : goal.returns
-unfolding written_says size laid le header empty_rsp
+unfolding says size laid le header empty_rsp
 returns c = search laws

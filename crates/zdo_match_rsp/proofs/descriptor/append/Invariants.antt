@@ -2,7 +2,7 @@
 -- Assumes nothing.
 use Rattle.std.proofs.Common.{length, ◌-◌, ◌≡◌, map, ◌++◌, ◌≤◌, min, take, ℕ, ◌+◌, ◌*◌, ◌<◌}
 use Rattle.zigbee_types.specs.Outcome.{answer, Wrote}
-use Rattle.zigbee_types.specs.Answers.{written_says}
+use Rattle.zigbee_types.specs.Answers.{says}
 use Rattle.zigbee_types.specs.Layout.{byte, laid}
 use Rattle.zdo_replies.specs.Codes.{discovery_code}
 use Rattle.zdo_replies.specs.Replies.{list_rsp, match_desc_rsp_error}

@@ -4,15 +4,15 @@ use Rattle.zigbee_types.specs.Layout.{size}
 use Rattle.zigbee_types.proofs.Runs.{run_short}
 use Rattle.zdo_readers.proofs.Longer.{mask_parse}
 use Rattle.zdo_readers.specs.Readers.{header_widths, node_desc_rsp_in}
-use Rattle.zdo_readers.specs.Answers.{node_desc_rsp_says}
+use Rattle.zigbee_types.specs.Answers.{says}
 use Rattle.zdo_readers.proofs.descriptor.parse_node_desc_rsp.Goals as goal
 
 ruleset laws = (rules, run_short, mask_parse)
 
 pub returns-then-asdu-lt4 : goal.returns-then-asdu-lt4
-unfolding size header_widths node_desc_rsp_in node_desc_rsp_says
+unfolding size header_widths node_desc_rsp_in says
 returns-then-asdu-lt4 c = search laws
 
 pub returns : goal.returns
-unfolding size header_widths node_desc_rsp_in node_desc_rsp_says
+unfolding size header_widths node_desc_rsp_in says
 returns c = search laws

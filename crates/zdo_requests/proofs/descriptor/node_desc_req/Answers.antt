@@ -1,11 +1,11 @@
 -- `node_desc_req` meets its contract: two fields are put one behind the other. Assumes nothing.
 use native.Mathlib.Omega.{arith}
-use Rattle.zigbee_types.specs.Answers.{written_says}
+use Rattle.zigbee_types.specs.Answers.{says}
 use Rattle.zigbee_types.specs.Layout.{size}
 use Rattle.zigbee_types.proofs.Runs.{run_put_none, run_put_more, run_writes}
 use Rattle.zdo_requests.specs.Requests.{addr_of_interest_fields, node_desc_req}
 use Rattle.zdo_requests.proofs.descriptor.node_desc_req.Goals as goal
 
 pub returns : goal.returns
-unfolding written_says size addr_of_interest_fields node_desc_req
+unfolding says size addr_of_interest_fields node_desc_req
 returns c = run_writes (run_put_more c.write_u8-at.ensures (run_put_more c.write_u16-at.ensures run_put_none)) (omega arith)

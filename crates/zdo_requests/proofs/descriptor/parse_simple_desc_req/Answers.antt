@@ -3,15 +3,15 @@ use borrow.Author.Rules.{rules}
 use Rattle.zigbee_types.specs.Layout.{size}
 use Rattle.zigbee_types.proofs.Runs.{three_parse, run_short}
 use Rattle.zdo_requests.specs.Requests.{simple_desc_req_in}
-use Rattle.zdo_requests.specs.Answers.{simple_desc_req_says}
+use Rattle.zigbee_types.specs.Answers.{says}
 use Rattle.zdo_requests.proofs.descriptor.parse_simple_desc_req.Goals as goal
 
 ruleset laws = (rules, three_parse, run_short)
 
 pub returns-then-asdu-lt4 : goal.returns-then-asdu-lt4
-unfolding size simple_desc_req_in simple_desc_req_says
+unfolding size simple_desc_req_in says
 returns-then-asdu-lt4 c = search laws
 
 pub returns : goal.returns
-unfolding size simple_desc_req_in simple_desc_req_says
+unfolding size simple_desc_req_in says
 returns c = search laws

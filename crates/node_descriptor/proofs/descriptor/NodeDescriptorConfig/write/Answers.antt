@@ -1,17 +1,17 @@
 -- `NodeDescriptorConfig::write` meets its contract: nine fields are put one behind the other. Assumes nothing.
 use borrow.Author.Rules.{rules}
-use Rattle.zigbee_types.specs.Answers.{written_says}
+use Rattle.zigbee_types.specs.Answers.{says}
 use Rattle.zigbee_types.specs.Layout.{size}
 use Rattle.zigbee_types.proofs.Runs.{run_put_none, run_put_more, run_put_told, run_writes, run_full}
 use Rattle.node_descriptor.specs.NodeDescriptor.{node_descriptor_of}
 use Rattle.node_descriptor.proofs.descriptor.NodeDescriptorConfig.write.Goals as goal
 
 pub returns-then-out-lt-NODE_DESCRIPTOR_SIZE : goal.returns-then-out-lt-NODE_DESCRIPTOR_SIZE
-unfolding written_says size node_descriptor_of
+unfolding says size node_descriptor_of
 returns-then-out-lt-NODE_DESCRIPTOR_SIZE c = search (rules, run_full)
 
 pub returns : goal.returns
-unfolding written_says size node_descriptor_of
+unfolding says size node_descriptor_of
 returns c =
     run_writes
     (run_put_told c.write_u8-at.ensures c.byte0.ensures

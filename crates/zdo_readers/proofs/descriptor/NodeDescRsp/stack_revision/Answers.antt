@@ -1,6 +1,5 @@
 -- `NodeDescRsp::stack_revision` meets its contract: it is that of the mask, or none. Assumes nothing.
 use Rattle.zdo_readers.specs.Readers.{stack_revision_of}
-use Rattle.zdo_readers.specs.Answers.{revision_says}
 use Rattle.zdo_readers.proofs.descriptor.NodeDescRsp.stack_revision.Goals as goal
 
 pub returns-in-Some : goal.returns-in-Some
