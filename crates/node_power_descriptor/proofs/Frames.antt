@@ -51,7 +51,7 @@ module _
 
 -- too short a buffer
 pub power_full :
-    (p : PowerDescriptorConfig) (s : List ℕ) → length s < 2 → Wrote (answer (laid (power_descriptor_of p))) s (says (Full ShortBuffer)) s
+    (p : PowerDescriptorConfig) (s : List ℕ) → length s < 2 → Wrote (answer (laid (power_descriptor_of p))) s (says (Err ShortBuffer)) s
 unfolding power_descriptor_of says size
 power_full p s h = run_full (power_descriptor_of p) s h
 

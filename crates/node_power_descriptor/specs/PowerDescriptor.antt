@@ -59,4 +59,3 @@ power_descriptor_in bytes =
     and_then
     (parsed power_widths (λ field. record { «byte0» = field 0; «byte1» = field 1 }) bytes)
     (λ d. cond (usable (d.«byte0» / 16) (d.«byte1» % 16)) (answer d) (refusal 3))
-

@@ -1,3 +1,2 @@
-pub mod Parsed
 pub mod Named
 pub mod Written

@@ -7,6 +7,7 @@ use Rattle.zigbee_types.specs.Layout.{Field, byte, laid, field_of, parsed, lists
 use Rattle.zigbee_types.specs.Addresses.{short, ieee_of, short_of, group_of}
 use Rattle.zigbee_types.specs.declared.ClusterLists.{ClusterLists}
 use Rattle.zigbee_types.specs.declared.ShortAddress.{ShortAddress}
+use Rattle.zigbee_types.specs.declared.IeeeAddress.{IeeeAddress}
 use Rattle.aps_binding.specs.Entry.{GROUP, DEVICE, group_binding, device_binding}
 use Rattle.aps_binding.specs.declared.binding.Binding.{Binding}
 use Rattle.zdo_requests.specs.declared.descriptor.NwkAddrReq.{NwkAddrReq}

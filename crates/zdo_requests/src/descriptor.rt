@@ -207,8 +207,8 @@ pub fn parse_addr_of_interest(asdu: &[u8]) -> Result<ShortAddress, Refusal>
     ensures { says result ≡ addr_of_interest_in asdu.now }
 {
     let request = parse_addr_of_interest_req(asdu)?;
-        let nwk_addr_of_interest = request.nwk_addr_of_interest;
-        Ok(nwk_addr_of_interest)
+    let nwk_addr_of_interest = request.nwk_addr_of_interest;
+    Ok(nwk_addr_of_interest)
 }
 
 // Parses a Simple_Desc_req (2.4.3.1.5): seq, NWKAddrOfInterest(2), EndPoint(1).
@@ -231,7 +231,11 @@ pub fn parse_simple_desc_req(asdu: &[u8]) -> Result<SimpleDescReq, Refusal>
 // Writes a Node_Desc_req (2.4.3.1.3) at the front of a buffer: seq, NWKAddrOfInterest(2). Too short a buffer is refused, and
 // nothing is written.
 #[tactic(auto, using(crate::proofs::Written::request_cut), unfolding(zigbee_types::specs::Outcome::mapped, zigbee_types::specs::Outcome::written, zigbee_types::specs::Answers::says))]
-pub fn node_desc_req(seq: u8, nwk_addr_of_interest: ShortAddress, out: &mut [u8]) -> Result<usize, Refusal>
+pub fn node_desc_req(
+    seq: u8,
+    nwk_addr_of_interest: ShortAddress,
+    out: &mut [u8],
+) -> Result<usize, Refusal>
     ensures { Wrote (node_desc_req seq nwk_addr_of_interest) out.old (says result) out.new }
 {
     if out.len() < 3 {
