@@ -92,7 +92,12 @@ pub fn descriptor_rsp_error(
 // ---- active and simple
 
 // Builds a reply that carries a zero in place of its list or descriptor.
-pub fn empty_rsp(seq: u8, status: u8, nwk_addr: ShortAddress, out: &mut [u8]) -> Result<usize, Refusal>
+pub fn empty_rsp(
+    seq: u8,
+    status: u8,
+    nwk_addr: ShortAddress,
+    out: &mut [u8],
+) -> Result<usize, Refusal>
     ensures { Wrote (empty_rsp seq status nwk_addr) out.old (says result) out.new }
 {
     if out.len() < 5 {

@@ -18,13 +18,13 @@ pub fn parse_match_desc_req(asdu: &[u8]) -> Result<MatchDescReq, Refusal>
     let nwk_addr_of_interest = read_u16(asdu, seq.next);
     let profile_id = read_u16(asdu, nwk_addr_of_interest.next);
     let lists = cluster_lists::try_read(asdu, profile_id.next)?;
-        let input_clusters = lists.input_clusters;
-        let output_clusters = lists.output_clusters;
-        Ok(MatchDescReq {
-            seq: seq.value,
-            nwk_addr_of_interest: ShortAddress(nwk_addr_of_interest.value),
-            profile_id: profile_id.value,
-            input_clusters,
-            output_clusters,
-        })
+    let input_clusters = lists.input_clusters;
+    let output_clusters = lists.output_clusters;
+    Ok(MatchDescReq {
+        seq: seq.value,
+        nwk_addr_of_interest: ShortAddress(nwk_addr_of_interest.value),
+        profile_id: profile_id.value,
+        input_clusters,
+        output_clusters,
+    })
 }
