@@ -41,12 +41,12 @@ pub enum Refusal {
     ShortBuffer,
 }
 
-impl Refusal {
-    // The number by which a refusal is told (document 01, "Refusal numbers").
-    pub fn number(self) -> u8
-        ensures { result ≡ refusal_number self }
-    {
-        match self {
+// The number by which a refusal is told (document 01, "Refusal numbers").
+impl From<Refusal> for u8 {
+    ghost from_gives = { λ why n. n ≡ refusal_number why };
+
+    fn from(why: Refusal) -> u8 {
+        match why {
             Refusal::BadTables => 1,
             Refusal::UnknownCluster => 2,
             Refusal::Malformed => 3,
