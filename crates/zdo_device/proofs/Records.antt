@@ -96,8 +96,7 @@ sought_first e h = record { at = at_first e h; left = refl }
 module _ {d : DeviceDescriptorConfig} {number n i : ℕ} (s : Sought d number n i) where
   module _ (z : EndpointDescriptor) (h : i < n) where
     -- the next one has it
-    pub sought_here : (get_or d.endpoints i z).endpoint ≡ number → endpoint_says (Some (get_or d.endpoints i z)) ≡ endpoint_record d number
-    unfolding endpoint_says
+    pub sought_here : (get_or d.endpoints i z).endpoint ≡ number → Some (get_or d.endpoints i z) ≡ endpoint_record d number
     sought_here e = sym (s.left ∙ find_here _ (at_here s.at z h) (eq-eqb _ _ e))
 
     -- nor has the next one
@@ -105,8 +104,7 @@ module _ {d : DeviceDescriptorConfig} {number n i : ℕ} (s : Sought d number n 
     sought_next e = record { at = at_next s.at h; left = s.left ∙ find_next _ (at_here s.at z h) (ne_eqb _ _ e) }
 
   -- there is no next
-  pub sought_end : n ≤ i → endpoint_says None ≡ endpoint_record d number
-  unfolding endpoint_says
+  pub sought_end : n ≤ i → None ≡ endpoint_record d number
   sought_end h = sym (s.left ∙ find_end _ (at_end s.at h))
 
 -- ---- the check of the tables
@@ -185,6 +183,6 @@ module _ (p : Pools) (d : DeviceDescriptorConfig) (g : good_device p d ≡ true)
 
   -- and so does the one that is found
   pub good_found :
-      (number : ℕ) {q : Option EndpointDescriptor} {e : EndpointDescriptor} → q ≡ Some e → endpoint_says q ≡ endpoint_record d number → record_fits p e ≡ true
-  unfolding endpoint_says endpoint_record
+      (number : ℕ) {q : Option EndpointDescriptor} {e : EndpointDescriptor} → q ≡ Some e → q ≡ endpoint_record d number → record_fits p e ≡ true
+  unfolding endpoint_record
   good_found number is f = find_all _ (record_fits p) (used d) good_fit (sym (rw is at f))

@@ -1,9 +1,8 @@
 -- `DeviceDescriptorConfig::endpoint` meets its contract. The loop's invariant: the first i records were passed by. The measure is
 -- how many are left. Assumes nothing.
-use Prim.Native.Nat.{◌-◌}
 use borrow.Author.Rules.{rules}
 use Rattle.zigbee_types.proofs.Elements.{length_mapped}
-use Rattle.zdo_device.proofs.Records.{Sought, sought_first, sought_here, sought_next, sought_end}
+use Rattle.zdo_device.proofs.Records.{sought_first, sought_here, sought_next, sought_end}
 use Rattle.zdo_device.proofs.descriptor.DeviceDescriptorConfig.endpoint.Goals as goal
 
 ruleset laws = (rules, length_mapped, sought_first, sought_here, sought_next, sought_end)

@@ -1,10 +1,8 @@
 -- `DeviceDescriptorConfig::good_tables` meets its contract. The loop's invariant: the first i records fit. The measure is how many
 -- are left. Assumes nothing.
-use Prim.Native.Nat.{◌-◌}
 use borrow.Author.Rules.{rules}
 use Rattle.zigbee_types.proofs.Elements.{length_mapped}
-use Rattle.zdo_device.specs.Tables.{pools}
-use Rattle.zdo_device.proofs.Records.{Checked, sizes_bad, checked_first, checked_here, checked_next, checked_end}
+use Rattle.zdo_device.proofs.Records.{sizes_bad, checked_first, checked_here, checked_next, checked_end}
 use Rattle.zdo_device.proofs.descriptor.DeviceDescriptorConfig.good_tables.Goals as goal
 
 ruleset laws = (rules, length_mapped, sizes_bad, checked_first, checked_here, checked_next, checked_end)

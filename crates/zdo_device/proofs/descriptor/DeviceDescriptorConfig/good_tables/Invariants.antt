@@ -1,12 +1,10 @@
 -- `DeviceDescriptorConfig::good_tables` meets its contract. The loop's invariant: the first i records fit. The measure is how many
 -- are left. Assumes nothing.
-use Rattle.std.proofs.Common.{◌-◌, ◌+◌, ◌≤◌, ◌<◌, min, ◌≡◌, true, length, ℕ, ◌*◌}
-use Rattle.zigbee_types.specs.Lists.{part}
-use Rattle.zdo_device.specs.Tables.{pools, endpoint_record, supports_endpoint, record_fits, good_sizes, good_device, endpoint_of, clusters_of, endpoint_clusters}
-use Rattle.zdo_device.proofs.descriptor.DeviceDescriptorConfig.good_tables.Given as goal
-use Rattle.zigbee_types.proofs.Elements.{length_mapped}
+use Rattle.std.proofs.Common.{◌-◌}
 use Rattle.zdo_device.specs.Tables.{pools}
-use Rattle.zdo_device.proofs.Records.{Checked, sizes_bad, checked_first, checked_here, checked_next, checked_end}
+use Rattle.zdo_device.proofs.descriptor.DeviceDescriptorConfig.good_tables.Given as goal
+use Rattle.zdo_device.specs.Tables.{pools}
+use Rattle.zdo_device.proofs.Records.{Checked}
 
 abbrev pub invariant-loop-i : goal.invariant-loop-i
 invariant-loop-i l = Checked (pools l.inputs l.outputs) l.self l.count l.i
