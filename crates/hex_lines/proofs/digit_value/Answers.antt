@@ -1,27 +1,27 @@
--- `digit_value` meets its contract, at each of its ways out. Assumes nothing.
+-- `digit_value` meets its contract, in each range and outside of all. Assumes nothing.
 use borrow.Author.Rules.{rules}
-use Rattle.hex_lines.proofs.Digits.{from_low, value_decimal, value_capital, value_small, value_none}
+use Rattle.hex_lines.proofs.Digits.{inside, below, above, value_decimal, value_capital, value_small, value_none}
 use Rattle.hex_lines.proofs.digit_value.Goals as goal
 
-ruleset laws = (rules, from_low, value_decimal, value_capital, value_small, value_none)
+ruleset laws = (rules, inside, below, above, value_decimal, value_capital, value_small, value_none)
 
-pub overflow_sub-result : goal.overflow_sub-result
-overflow_sub-result c = search laws
+pub returns-in-48-to-57 : goal.returns-in-48-to-57
+returns-in-48-to-57 c = search laws
 
-pub returns-then-is_between : goal.returns-then-is_between
-returns-then-is_between c = search laws
+pub returns-in-65-to-70 : goal.returns-in-65-to-70
+returns-in-65-to-70 c = search laws
 
-pub overflow_sub-result-then-is_between-2 : goal.overflow_sub-result-then-is_between-2
-overflow_sub-result-then-is_between-2 c = search laws
+pub returns-in-97-to-102 : goal.returns-in-97-to-102
+returns-in-97-to-102 c = search laws
 
-pub returns-then-is_between-2 : goal.returns-then-is_between-2
-returns-then-is_between-2 c = search laws
+pub returns-in_default : goal.returns-in_default
+returns-in_default c = search laws
 
-pub overflow_sub-result-then-is_between-3 : goal.overflow_sub-result-then-is_between-3
-overflow_sub-result-then-is_between-3 c = search laws
+pub returns-in_default-2 : goal.returns-in_default-2
+returns-in_default-2 c = search laws
 
-pub returns-then-is_between-3 : goal.returns-then-is_between-3
-returns-then-is_between-3 c = search laws
+pub returns-in_default-3 : goal.returns-in_default-3
+returns-in_default-3 c = search laws
 
-pub returns : goal.returns
-returns c = search laws
+pub returns-in_default-4 : goal.returns-in_default-4
+returns-in_default-4 c = search laws
