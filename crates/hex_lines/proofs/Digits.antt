@@ -1,13 +1,13 @@
 -- Digits: the value of one, and the bytes that they stand for. Assumes nothing.
 use Prim.Native.Nat.{ℕ, zero, suc, ◌+◌, ◌-◌, ◌*◌, ◌/◌, ◌≤◌, ◌<◌}
 use native.Mathlib.Nat.{not-suc-le-zero}
-use native.Mathlib.Numerals.{add-one}
 use native.Mathlib.Omega.{arith}
-use mathlib.Core.Path.{◌≡◌, refl, sym, ◌∙◌}
+use mathlib.Core.Path.{◌≡◌, refl}
 use mathlib.Core.Bool.{true, false}
 use mathlib.Core.List.{List, [], ◌∷◌}
 use lib.Dec.{leb}
-use lib.ListN.{length, get_or, drop, drop_of_length-le}
+use lib.Dec.{leb}
+use lib.ListN.{length, get_or}
 use lib.Seq.{drop-cons}
 use Rattle.std.proofs.Math.Bool.{and-false}
 use borrow.Author.Tests.{ltb-true, le-leb, lt-leb}
@@ -18,7 +18,7 @@ use Rattle.hex_lines.specs.Hex.{between, digit_value, is_digit, bytes_in}
 -- ---- one digit
 
 -- a character lies between two others, or outside
-module _ {low high c : ℕ} where
+module _ (low high c : ℕ) where
   pub inside : low ≤ c → c ≤ high → between low high c ≡ true
   unfolding between
   inside a b = rw (le-leb low c a, le-leb c high b)

@@ -1,5 +1,5 @@
 -- What equals one thing is one: a line is read with one outcome. Assumes nothing.
-use Rattle.std.specs.Prelude.{Option, Result, Ok, Err}
+use Rattle.std.specs.Prelude.{Result, Ok, Err}
 use mathlib.Core.Path.{◌≡◌, refl, sym, ◌∙◌}
 use Rattle.zigbee_types.specs.Answers.{says}
 use Rattle.zigbee_types.specs.declared.Refusal.{Refusal}

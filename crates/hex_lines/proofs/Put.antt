@@ -73,8 +73,10 @@ module _ (ds : List ℕ) (i : ℕ) (h : i < length ds / 2) where
       }
 
 -- all of them
-pub decoded_end : {ds s t : List ℕ} {i : ℕ} → Decoded ds i s t → length ds / 2 ≤ i → BytesPut (bytes_in ds) s 0 i t
-decoded_end {ds} {i = i} d h = rw (take_all i (bytes_in ds) (rw length_bytes h)) at d.put
+pub decoded_end : {ds s t : List ℕ} {i : ℕ} → Decoded ds i s t → length ds / 2 ≤ i → i ≤ length ds / 2 → BytesPut (bytes_in ds) s 0 (length ds / 2) t
+decoded_end {ds} {i = i} d h l =
+    let is : length ds / 2 ≡ i = omega arith in
+    rw is (rw (take_all i (bytes_in ds) (rw length_bytes h)) at d.put)
 
 -- ---- the digits of bytes
 

@@ -56,22 +56,22 @@ fn is_request(line: &[u8]) -> bool
     are_digits(&line[..4]) & (line[4] == b' ') & are_digits(&line[FRONT..])
 }
 
-// The byte that two digits stand for, the high one at a place and the low one behind it.
-fn byte_at(digits: &[u8], at: usize) -> u8
-    requires at_in_bounds { at + 2 ≤ length digits.now }
-    requires at_bound { digit_value (get_or digits.now at 0) < 16 }
-    requires at_bound_2 { digit_value (get_or digits.now (at + 1) 0) < 16 }
-    ensures { result ≡ 16 * digit_value (get_or digits.now at 0) + digit_value (get_or digits.now (at + 1) 0) }
+// The byte that two digits stand for, the high one first.
+fn byte_of(high: u8, low: u8) -> u8
+    requires high_bound { digit_value high < 16 }
+    requires low_bound { digit_value low < 16 }
+    ensures { result ≡ 16 * digit_value high + digit_value low }
 {
-    16 * digit_value(digits[at]) + digit_value(digits[at + 1])
+    16 * digit_value(high) + digit_value(low)
 }
 
 // The cluster of a request: the number of its first four digits, the first the highest.
+#[tactic(auto, using(crate::proofs::Request::request_long, crate::proofs::Request::request_digit, crate::proofs::Request::cluster_is))]
 fn cluster_of(line: &[u8]) -> u16
     requires { is_request line.now ≡ true }
     ensures { result ≡ cluster_in line.now }
 {
-    256 * (byte_at(line, 0) as u16) + (byte_at(line, 2) as u16)
+    256 * (byte_of(line[0], line[1]) as u16) + (byte_of(line[2], line[3]) as u16)
 }
 
 // Puts the bytes that digits stand for at the front of a buffer that has room for them, and tells the place behind them.
@@ -82,7 +82,7 @@ fn put_payload(out: &mut [u8], digits: &[u8]) -> usize
 {
     let count = digits.len() / 2;
     for i in 0..count {
-        out[i] = byte_at(digits, 2 * i);
+        out[i] = byte_of(digits[2 * i], digits[2 * i + 1]);
     }
     count
 }

@@ -5,11 +5,11 @@ use Rattle.hex_lines.proofs.put_payload.Goals as goal
 
 ruleset laws = (rules, decoded_first, decoded_high, decoded_low, decoded_room, decoded_next, decoded_end)
 
-pub byte_at-requires-clause-at_bound : goal.byte_at-requires-clause-at_bound
-byte_at-requires-clause-at_bound c = search laws
+pub byte_of-requires-clause-high_bound : goal.byte_of-requires-clause-high_bound
+byte_of-requires-clause-high_bound c = search laws
 
-pub byte_at-requires-clause-at_bound_2 : goal.byte_at-requires-clause-at_bound_2
-byte_at-requires-clause-at_bound_2 c = search laws
+pub byte_of-requires-clause-low_bound : goal.byte_of-requires-clause-low_bound
+byte_of-requires-clause-low_bound c = search laws
 
 pub bounds-out-i : goal.bounds-out-i
 bounds-out-i c = search laws
