@@ -23,6 +23,7 @@ const FRONT: usize = 5;
 // ---- reading
 
 // The value of a digit of either case, and 16 for any other character.
+#[tactic(auto, using(crate::proofs::Digits::inside, crate::proofs::Digits::below, crate::proofs::Digits::above, crate::proofs::Digits::value_decimal, crate::proofs::Digits::value_capital, crate::proofs::Digits::value_small, crate::proofs::Digits::value_none))]
 fn digit_value(character: u8) -> u8
     ensures { result ≡ digit_value character }
 {
@@ -44,6 +45,7 @@ fn are_digits(characters: &[u8]) -> bool
 }
 
 // Whether a line is a request's: four digits, a space, and two digits for each byte, of which there is one or more.
+#[tactic(auto, using(crate::proofs::Request::line_short, crate::proofs::Request::line_even, crate::proofs::Request::line_front, crate::proofs::Request::line_tested))]
 fn is_request(line: &[u8]) -> bool
     ensures { result ≡ is_request line.now }
 {
@@ -109,6 +111,7 @@ pub fn parse_line(line: &[u8], payload: &mut [u8]) -> Result<Option<ParsedReques
 // ---- writing
 
 // The digit of a number below 16, in capitals.
+#[tactic(auto, using(crate::proofs::Put::capital_low, crate::proofs::Put::capital_high))]
 fn capital(n: u8) -> u8
     requires { n < 16 }
     ensures { result ≡ capital n }
