@@ -82,11 +82,10 @@ fn put_payload(out: &mut [u8], digits: &[u8]) -> usize
     requires digits_in_bounds { length (bytes_in digits.now) ≤ length out.old }
     ensures { BytesPut (bytes_in digits.now) out.old 0 result out.new }
 {
-    let count = digits.len() / 2;
-    for i in 0..count {
-        out[i] = byte_of(digits[2 * i], digits[2 * i + 1]);
+    for (i, pair) in digits.chunks_exact(2).enumerate() {
+        out[i] = byte_of(pair[0], pair[1]);
     }
-    count
+    digits.len() / 2
 }
 
 // Reads a line. A request's payload is put at the front of the buffer, and its cluster and the payload's length are told. A line that
