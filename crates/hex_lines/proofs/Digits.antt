@@ -1,6 +1,5 @@
 -- Digits: the value of one, and the bytes that they stand for. Assumes nothing.
-use Prim.Native.Nat.{ℕ, zero, suc, ◌+◌, ◌-◌, ◌*◌, ◌/◌, ◌≤◌, ◌<◌}
-use native.Mathlib.Nat.{not-suc-le-zero}
+use Prim.Native.Nat.{ℕ, ◌-◌, ◌/◌, ◌≤◌, ◌<◌}
 use native.Mathlib.Omega.{arith}
 use mathlib.Core.Path.{◌≡◌, refl}
 use mathlib.Core.Bool.{true, false}
@@ -64,17 +63,3 @@ unfolding bytes_in
 length_bytes [] = refl
 length_bytes (a ∷ []) = refl
 length_bytes (a ∷ b ∷ rest) = omega (arith, length_bytes rest)
-
--- the one at a place
-pub byte_in :
-    (ds : List ℕ) (i : ℕ)
-    → i < length ds / 2
-    → 16 * digit_value (get_or ds (2 * i) 0) + digit_value (get_or ds (2 * i + 1) 0) ≡ get_or (bytes_in ds) i 0
-unfolding bytes_in
-byte_in [] i h = absurd (not-suc-le-zero h)
-byte_in (a ∷ []) i h = absurd (not-suc-le-zero h)
-byte_in (a ∷ b ∷ rest) zero h = refl
-byte_in (a ∷ b ∷ rest) (suc i) h =
-    let high : 2 * suc i ≡ suc (suc (2 * i)) = omega arith in
-    let low : 2 * suc i + 1 ≡ suc (suc (2 * i + 1)) = omega arith in
-    rw (low, high) (byte_in rest i (omega arith))
