@@ -5,7 +5,6 @@ use mathlib.Core.Path.{◌≡◌, refl}
 use mathlib.Core.Bool.{true, false}
 use mathlib.Core.List.{List, [], ◌∷◌}
 use lib.Dec.{leb}
-use lib.Dec.{leb}
 use lib.ListN.{length, get_or}
 use lib.Seq.{drop-cons}
 use Rattle.std.proofs.Math.Bool.{and-false}
