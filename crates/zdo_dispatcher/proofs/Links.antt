@@ -23,7 +23,7 @@ use Rattle.aps_binding_table.specs.Held.{Step}
 use Rattle.aps_binding_table.specs.Table.{good_table, held, placed, on_good, create_binding_link, remove_binding_link, table_left, Leaves}
 use Rattle.aps_binding_table.specs.declared.binding.BindingTable.{BindingTable}
 use Rattle.aps_binding_table.specs.declared.binding.BindingError.{BindingError}
-use Rattle.aps_binding_table.specs.declared.binding.BindingError.TheVariants as error
+use Rattle.aps_binding_table.specs.declared.binding.BindingError.TheVariants.{InvalidBinding, TableFull, Refused}
 use Rattle.aps_binding_table.proofs.Good.{good_table_lem, count_inside}
 use Rattle.aps_binding_table.proofs.Places.{held_stays}
 use Rattle.zdo_requests.specs.Clusters.{reply_cluster}
@@ -72,20 +72,22 @@ module _ (seq : ℕ) (s : Result ⊤ BindingError) {before after : List ℕ} {to
   unfolding link_says and_then
   tells_success e w = rw e w
 
-  pub tells_none : s ≡ Err error.InvalidBinding → Wrote (status_rsp seq NO_ENTRY) before told after → Wrote (and_then (link_says s) (status_rsp seq)) before told after
-  unfolding link_says and_then
-  tells_none e w = rw e w
+  module _ {error : BindingError} (e : s ≡ Err error) where
+    pub tells_none : error ≡ InvalidBinding → Wrote (status_rsp seq NO_ENTRY) before told after → Wrote (and_then (link_says s) (status_rsp seq)) before told after
+    unfolding link_says and_then
+    tells_none is w = rw (e, is) w
 
-  pub tells_full : s ≡ Err error.TableFull → Wrote (status_rsp seq TABLE_FULL) before told after → Wrote (and_then (link_says s) (status_rsp seq)) before told after
-  unfolding link_says and_then
-  tells_full e w = rw e w
+    pub tells_full : error ≡ TableFull → Wrote (status_rsp seq TABLE_FULL) before told after → Wrote (and_then (link_says s) (status_rsp seq)) before told after
+    unfolding link_says and_then
+    tells_full is w = rw (e, is) w
 
 pub tells_refused :
-    (seq : ℕ) (s : Result ⊤ BindingError) (why : Refusal) (before : List ℕ)
-    → s ≡ Err (error.Refused why)
+    (seq : ℕ) (s : Result ⊤ BindingError) {error : BindingError} (why : Refusal) (before : List ℕ)
+    → s ≡ Err error
+    → error ≡ Refused why
     → Wrote (and_then (link_says s) (status_rsp seq)) before (says (Err why)) before
 unfolding link_says and_then says
-tells_refused seq s why before e = rw e (wrote_refused (refusal_number why) before)
+tells_refused seq s why before e is = rw (e, is) (wrote_refused (refusal_number why) before)
 
 -- ---- the reply
 

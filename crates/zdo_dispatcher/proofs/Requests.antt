@@ -54,18 +54,18 @@ module _ (payload : List ℕ) where
     link_unread is = rw (← said, is)
 
   -- a leave request
-  pub leave_read : {q : MgmtLeaveReq} → says (Ok q) ≡ mgmt_leave_req_in payload → response_says (Ok (response.Leave q)) ≡ mapped leaving (mgmt_leave_req_in payload)
+  pub leave_read : (q : MgmtLeaveReq) → says (Ok q) ≡ mgmt_leave_req_in payload → response_says (Ok (response.Leave q)) ≡ mapped leaving (mgmt_leave_req_in payload)
   unfolding says mapped response_says
-  leave_read said = rw (← said)
+  leave_read q said = rw (← said)
 
   -- none
   pub leave_unread :
-      {why : Refusal} (r : Result Response Refusal)
+      (r : Result Response Refusal) (why : Refusal)
       → says {A = MgmtLeaveReq} (Err why) ≡ mgmt_leave_req_in payload
       → IsErr r × IsErrAnd r (λ e. e ≡ why)
       → response_says r ≡ mapped leaving (mgmt_leave_req_in payload)
   unfolding says mapped response_says
-  leave_unread {why} r said p = rw (← said, passed r why p)
+  leave_unread r why said p = rw (← said, passed r why p)
 
 -- ---- what is left
 

@@ -56,12 +56,12 @@ take_full payload l d long cluster out (read q is) short = record { at = λ t fu
 
 module _ (payload : List ℕ) (l : Link) (d : DeviceDescriptorConfig) (long : IeeeAddress) (cluster : ℕ) (out : List ℕ) where
   -- none was read
-  pub take_unread : {why : Refusal} → says {A = BindReq} (Err why) ≡ bind_req_in payload → TakenTo (link_with l d long (asking cluster payload out)) cluster (Err why) out out
+  pub take_unread : (why : Refusal) → says {A = BindReq} (Err why) ≡ bind_req_in payload → TakenTo (link_with l d long (asking cluster payload out)) cluster (Err why) out out
   unfolding AtTaken Kept link_with asking response_says
-  take_unread {why} said =
+  take_unread why said =
       record { at = λ t full good. rw (link_unread payload l d long t cluster out said refl) (dispatched_refused why t out (refusal_number why) refl) }
 
-  module _ {q : BindReq} (said : says (Ok q) ≡ bind_req_in payload) {source code : ℕ} (ours : source ≡ source_status d long q) (coded : code ≡ source) where
+  module _ (q : BindReq) (said : says (Ok q) ≡ bind_req_in payload) {source code : ℕ} (ours : source ≡ source_status d long q) (coded : code ≡ source) where
     -- the source is not ours: what was replied is told
     denied :
         {n : Outcome ℕ} {after : List ℕ} (told : Result Response Refusal)
@@ -133,20 +133,20 @@ module _ (h : Host) (device : good_device h.pools h.device ≡ true) (cluster : 
   left told e f = λ t full good. at_leave h t device good cluster payload out e f
 
   pub take_leave :
-      {told : Response}
+      (told : Response)
       → cluster ≡ MGMT_LEAVE_REQ_NUMBER
       → response_says (Ok told) ≡ mapped leaving (mgmt_leave_req_in payload)
       → TakenTo (answered_with h (asking cluster payload out)) cluster (Ok (taken.Answered told)) out out
   unfolding AtTaken
-  take_leave {told} e f = record { at = left (Ok told) e f }
+  take_leave told e f = record { at = left (Ok told) e f }
 
   pub take_no_leave :
-      {why : Refusal}
+      (why : Refusal)
       → cluster ≡ MGMT_LEAVE_REQ_NUMBER
       → response_says (Err why) ≡ mapped leaving (mgmt_leave_req_in payload)
       → TakenTo (answered_with h (asking cluster payload out)) cluster (Err why) out out
   unfolding AtTaken
-  take_no_leave {why} e f = record { at = left (Err why) e f }
+  take_no_leave why e f = record { at = left (Err why) e f }
 
   -- any other
   found :
@@ -158,39 +158,39 @@ module _ (h : Host) (device : good_device h.pools h.device ≡ true) (cluster : 
   found told other w = λ t full good. at_discovery h t device good cluster payload out other w
 
   pub take_discovery :
-      {told : Response} {after : List ℕ}
+      (told : Response) {after : List ℕ}
       → Unnamed Unit (λ k. k) cluster (BIND_REQ_NUMBER ∷ UNBIND_REQ_NUMBER ∷ MGMT_LEAVE_REQ_NUMBER ∷ [])
       → ((u : BindingTable) → Dispatched (mapped (λ bytes. reply (reply_cluster cluster) bytes u) (discovered h (asking cluster payload out))) u out (response_says (Ok told)) u after)
       → TakenTo (answered_with h (asking cluster payload out)) cluster (Ok (taken.Answered told)) out after
   unfolding AtTaken
-  take_discovery {told} other w = record { at = found (Ok told) other w }
+  take_discovery told other w = record { at = found (Ok told) other w }
 
   pub take_no_discovery :
-      {why : Refusal} {after : List ℕ}
+      (why : Refusal) {after : List ℕ}
       → Unnamed Unit (λ k. k) cluster (BIND_REQ_NUMBER ∷ UNBIND_REQ_NUMBER ∷ MGMT_LEAVE_REQ_NUMBER ∷ [])
       → ((u : BindingTable) → Dispatched (mapped (λ bytes. reply (reply_cluster cluster) bytes u) (discovered h (asking cluster payload out))) u out (response_says (Err why)) u after)
       → TakenTo (answered_with h (asking cluster payload out)) cluster (Err why) out after
   unfolding AtTaken
-  take_no_discovery {why} other w = record { at = found (Err why) other w }
+  take_no_discovery why other w = record { at = found (Err why) other w }
 
 -- ---- with the table
 
 module _ (h : Host) (a : Asked) {cluster : ℕ} {s : Result Taken Refusal} {before after : List ℕ} (was : TakenTo (answered_with h a) cluster s before after) where
   -- it was answered, or refused
   module _ (t : BindingTable) (good : good_table t ≡ true) (full : length t.entries ≡ 32) where
-    pub was_told : {r : Response} → s ≡ Ok (taken.Answered r) → Dispatched (answered h t a) t before (response_says (Ok r)) t after
+    pub was_told : {w : Taken} {r : Response} → s ≡ Ok w → w ≡ taken.Answered r → Dispatched (answered h t a) t before (response_says (Ok r)) t after
     unfolding AtTaken Kept answered_with
-    was_told e = (rw e at was).at t full good
+    was_told e is = (rw (e, is) at was).at t full good
 
     pub was_refused : {why : Refusal} → s ≡ Err why → Dispatched (answered h t a) t before (response_says (Err why)) t after
     unfolding AtTaken Kept answered_with
     was_refused e = (rw e at was).at t full good
 
   -- it asks for an entry to be bound or unbound
-  module _ {l : Link} {q : BindReq} (e : s ≡ Ok (taken.Asks l q)) where
+  module _ {w : Taken} {l : Link} {q : BindReq} (e : s ≡ Ok w) (is : w ≡ taken.Asks l q) where
     linking : Linking (answered_with h a) l q cluster before after
     unfolding AtTaken
-    linking = (rw e at was).at
+    linking = (rw (e, is) at was).at
 
     pub asks_low : cluster < 2 ^ 15
     asks_low = linking.low

@@ -31,12 +31,12 @@ module _ (cluster : ℕ) (w : Result ℕ Refusal) where
   told_length e = rw e
 
   pub told_refused :
-      {why : Refusal} (r : Result Response Refusal)
+      (r : Result Response Refusal) (why : Refusal)
       → w ≡ Err why
       → IsErr r × IsErrAnd r (λ e. e ≡ why)
       → response_says r ≡ mapped (replied (reply_cluster cluster)) (says w)
   unfolding says response_says mapped
-  told_refused {why} r e p = rw (e, passed r why p)
+  told_refused r why e p = rw (e, passed r why p)
 
 -- ---- what is left
 

@@ -98,9 +98,11 @@ fn link_rsp(seq: u8, status: Result<(), BindingError>, out: &mut [u8]) -> Result
 {
     match status {
         Ok(()) => bind_rsp(seq, BindStatus::Success, out),
-        Err(BindingError::InvalidBinding) => bind_rsp(seq, BindStatus::NoEntry, out),
-        Err(BindingError::TableFull) => bind_rsp(seq, BindStatus::TableFull, out),
-        Err(BindingError::Refused(why)) => Err(why),
+        Err(error) => match error {
+            BindingError::InvalidBinding => bind_rsp(seq, BindStatus::NoEntry, out),
+            BindingError::TableFull => bind_rsp(seq, BindStatus::TableFull, out),
+            BindingError::Refused(why) => Err(why),
+        },
     }
 }
 
@@ -248,17 +250,19 @@ pub fn dispatch<'a>(
             response: Err(Refusal::BadTables),
         };
     }
-    let taken = take(
+    let read = take(
         device, ieee_addr, nwk_addr, inputs, outputs, cluster, payload, out,
     );
-    match taken {
-        Ok(Taken::Answered(response)) => Responded {
-            table,
-            response: Ok(response),
+    match read {
+        Ok(taken) => match taken {
+            Taken::Answered(response) => {
+                let response = Ok(response);
+                Responded { table, response }
+            }
+            Taken::Asks { link, request } => {
+                return link_answer(link, table, request, cluster, out);
+            }
         },
-        Ok(Taken::Asks { link, request }) => {
-            return link_answer(link, table, request, cluster, out);
-        }
         Err(why) => Responded {
             table,
             response: Err(why),

@@ -1,12 +1,9 @@
 -- `on_leave` meets its contract: a request is read, or none. Assumes nothing.
-use borrow.Author.Rules.{rules}
 use Rattle.zdo_dispatcher.proofs.Requests.{leave_read, leave_unread}
 use Rattle.zdo_dispatcher.proofs.dispatcher.on_leave.Goals as goal
 
-ruleset laws = (rules, leave_read, leave_unread)
-
 pub returns-in_err-request : goal.returns-in_err-request
-returns-in_err-request c = search laws
+returns-in_err-request c = leave_unread _ _ _ c.in_err-request.ensures c.from_residual.ensures
 
 pub returns : goal.returns
-returns c = search laws
+returns c = leave_read _ _ c.in_ok-request.ensures
