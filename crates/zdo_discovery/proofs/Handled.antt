@@ -3,9 +3,9 @@ use Prim.Native.Nat.{ℕ, ◌≤◌}
 use mathlib.Core.Path.{◌≡◌}
 use mathlib.Core.Bool.{true, false}
 use mathlib.Core.List.{List}
-use borrow.Author.Tests.{eq-eqb, ne_eqb, le-leb}
+use borrow.Author.Tests.{ne_eqb, le-leb}
 use Rattle.zigbee_types.specs.Outcome.{Outcome, Wrote}
-use Rattle.zigbee_types.specs.Addresses.{ieee_of, short_of}
+use Rattle.zigbee_types.specs.Addresses.{ieee_of, short_of, same_ieee, same_short}
 use Rattle.zigbee_types.specs.Statuses.{INV_REQUESTTYPE, DEVICE_NOT_FOUND}
 use Rattle.zigbee_types.specs.declared.IeeeAddress.{IeeeAddress}
 use Rattle.zigbee_types.specs.declared.ShortAddress.{ShortAddress}
@@ -43,34 +43,34 @@ module _ (long : IeeeAddress) (short : ShortAddress) {before after : List ℕ} {
   -- by the long address that is asked for
   module _ (q : NwkAddrReq) where
     pub nwk_ours :
-        q.ieee_addr.0 ≡ long.0
+        true ≡ same_ieee q.ieee_addr long
         → Wrote (our_address long short q.seq q.request_type) before told after
         → Wrote (on_nwk_addr long short q) before told after
     unfolding on_nwk_addr
-    nwk_ours e w = rw (eq-eqb q.ieee_addr.0 long.0 e) w
+    nwk_ours e w = rw (← e) w
 
     pub nwk_other :
-        (q.ieee_addr.0 ≡ long.0 → ⊥)
+        false ≡ same_ieee q.ieee_addr long
         → Wrote (addr_rsp_single q.seq DEVICE_NOT_FOUND q.ieee_addr (short_of 0xFFFF)) before told after
         → Wrote (on_nwk_addr long short q) before told after
     unfolding on_nwk_addr
-    nwk_other e w = rw (ne_eqb q.ieee_addr.0 long.0 e) w
+    nwk_other e w = rw (← e) w
 
   -- by the short address
   module _ (q : IeeeAddrReq) where
     pub ieee_ours :
-        q.nwk_addr_of_interest.0 ≡ short.0
+        true ≡ same_short q.nwk_addr_of_interest short
         → Wrote (our_address long short q.seq q.request_type) before told after
         → Wrote (on_ieee_addr long short q) before told after
     unfolding on_ieee_addr
-    ieee_ours e w = rw (eq-eqb q.nwk_addr_of_interest.0 short.0 e) w
+    ieee_ours e w = rw (← e) w
 
     pub ieee_other :
-        (q.nwk_addr_of_interest.0 ≡ short.0 → ⊥)
+        false ≡ same_short q.nwk_addr_of_interest short
         → Wrote (addr_rsp_single q.seq DEVICE_NOT_FOUND (ieee_of 0xFFFF_FFFF_FFFF_FFFF) q.nwk_addr_of_interest) before told after
         → Wrote (on_ieee_addr long short q) before told after
     unfolding on_ieee_addr
-    ieee_other e w = rw (ne_eqb q.nwk_addr_of_interest.0 short.0 e) w
+    ieee_other e w = rw (← e) w
 
 -- ---- descriptors and lists
 
@@ -93,18 +93,18 @@ module _ {type : LogicalType} where
   of_reserved e = rw e
 
 module _ (type : LogicalType) (own address : ShortAddress) (ours : Outcome (List ℕ)) (error : ℕ → Outcome (List ℕ)) {before after : List ℕ} {told : Outcome ℕ} where
-  pub about_ours : address.0 ≡ own.0 → Wrote ours before told after → Wrote (about type own address ours error) before told after
+  pub about_ours : true ≡ same_short address own → Wrote ours before told after → Wrote (about type own address ours error) before told after
   unfolding about
-  about_ours e w = rw (eq-eqb address.0 own.0 e) w
+  about_ours e w = rw (← e) w
 
   pub about_other :
       {status : ℕ}
-      → (address.0 ≡ own.0 → ⊥)
+      → false ≡ same_short address own
       → status ≡ not_ours type
       → Wrote (error status) before told after
       → Wrote (about type own address ours error) before told after
   unfolding about
-  about_other e is w = rw (ne_eqb address.0 own.0 e, ← is) w
+  about_other e is w = rw (← e, ← is) w
 
 -- the active reply of a device with at most 32 records
 pub active_counted :

@@ -70,7 +70,7 @@ fn on_nwk_addr(
 {
     let request = parse_nwk_addr_req(payload)?;
     let asked = request.ieee_addr;
-    if asked.0 == ieee_addr.0 {
+    if asked == ieee_addr {
         return our_address(ieee_addr, nwk_addr, request.seq, request.request_type, out);
     }
     let error = DiscoveryError::DeviceNotFound;
@@ -88,7 +88,7 @@ fn on_ieee_addr(
 {
     let request = parse_ieee_addr_req(payload)?;
     let asked = request.nwk_addr_of_interest;
-    if asked.0 == nwk_addr.0 {
+    if asked == nwk_addr {
         return our_address(ieee_addr, nwk_addr, request.seq, request.request_type, out);
     }
     let error = DiscoveryError::DeviceNotFound;
@@ -122,7 +122,7 @@ fn on_node(
 {
     let request = parse_addr_of_interest_req(payload)?;
     let asked = request.nwk_addr_of_interest;
-    if asked.0 == nwk_addr.0 {
+    if asked == nwk_addr {
         return node_desc_rsp(node, request.seq, asked, out);
     }
     descriptor_rsp_error(request.seq, not_ours(node), asked, out)
@@ -140,7 +140,7 @@ fn on_power(
 {
     let request = parse_addr_of_interest_req(payload)?;
     let asked = request.nwk_addr_of_interest;
-    if asked.0 == nwk_addr.0 {
+    if asked == nwk_addr {
         return power_desc_rsp(power, request.seq, asked, out);
     }
     descriptor_rsp_error(request.seq, not_ours(node), asked, out)
@@ -160,7 +160,7 @@ fn on_simple<'a>(
 {
     let request = parse_simple_desc_req(payload)?;
     let asked = request.nwk_addr_of_interest;
-    if asked.0 == nwk_addr.0 {
+    if asked == nwk_addr {
         return simple_desc_rsp_checked(
             device,
             request.seq,
@@ -186,7 +186,7 @@ fn on_active(
 {
     let request = parse_addr_of_interest_req(payload)?;
     let asked = request.nwk_addr_of_interest;
-    if asked.0 == nwk_addr.0 {
+    if asked == nwk_addr {
         return active_ep_rsp(device, request.seq, asked, out);
     }
     active_ep_rsp_error(request.seq, not_ours(device.node), asked, out)
@@ -233,7 +233,7 @@ fn on_match<'a>(
     ensures { Wrote (and_then (match_desc_req_in payload.now) (on_match device.node.logical_type (resolved_in (pools inputs.now outputs.now) (used device)) nwk_addr payload.now)) out.old (says result) out.new }
 {
     let request = parse_match_desc_req(payload)?;
-    if request.nwk_addr_of_interest.0 == nwk_addr.0 {
+    if request.nwk_addr_of_interest == nwk_addr {
         return matched_rsp(device, inputs, outputs, request, payload, out);
     }
     match_desc_rsp_error(request.seq, not_ours(device.node), out)

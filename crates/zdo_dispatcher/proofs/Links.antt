@@ -1,14 +1,15 @@
 -- Bind and unbind: whether the source is ours, and what the table then does. Assumes nothing.
 use Rattle.std.specs.Prelude.{Result, Ok, Err, ⊤}
 use Prim.Native.Nat.{ℕ, ◌≤◌, ◌<◌}
-use mathlib.Core.Path.{◌≡◌, refl, ◌∙◌}
+use mathlib.Core.Path.{◌≡◌, refl, sym, ◌∙◌}
 use mathlib.Core.Bool.{Bool, true, false, not}
 use mathlib.Core.List.{List}
 use lib.ListN.{length}
-use borrow.Author.Tests.{eq-eqb, ne_eqb, le-leb, lt-leb}
+use borrow.Author.Tests.{ne_eqb, le-leb, lt-leb}
 use Rattle.zigbee_types.specs.Outcome.{Outcome, answer, and_then, mapped, fitted, Wrote}
 use Rattle.zigbee_types.specs.Answers.{says}
 use Rattle.zigbee_types.specs.Refusals.{refusal_number}
+use Rattle.zigbee_types.specs.Addresses.{same_ieee}
 use Rattle.zigbee_types.specs.Statuses.{SUCCESS, INVALID_EP, NOT_SUPPORTED, NO_ENTRY, TABLE_FULL}
 use Rattle.zigbee_types.specs.Layout.{laid, size}
 use Rattle.zigbee_types.specs.declared.IeeeAddress.{IeeeAddress}
@@ -41,18 +42,19 @@ use Rattle.zdo_dispatcher.proofs.Told.{dispatched_refused, dispatched_reply, kep
 -- ---- the source
 
 module _ (d : DeviceDescriptorConfig) (long : IeeeAddress) (q : BindReq) where
-  pub other_address : (q.src_address.0 ≡ long.0 → ⊥) → NOT_SUPPORTED ≡ source_status d long q
-  unfolding source_status
-  other_address e = rw (ne_eqb q.src_address.0 long.0 e)
-
-  module _ (e : q.src_address.0 ≡ long.0) {t : Bool} (is : t ≡ supports_endpoint d q.src_endpoint) where
-    pub other_endpoint : not t ≡ true → INVALID_EP ≡ source_status d long q
+  module _ {u : Bool} (is : u ≡ not (same_ieee q.src_address long)) where
+    pub other_address : u ≡ true → NOT_SUPPORTED ≡ source_status d long q
     unfolding source_status
-    other_endpoint denied = rw (eq-eqb q.src_address.0 long.0 e, said_no is denied)
+    other_address other = rw (said_no refl (sym is ∙ other))
 
-    pub source_ours : not t ≡ false → SUCCESS ≡ source_status d long q
-    unfolding source_status
-    source_ours granted = rw (eq-eqb q.src_address.0 long.0 e, said_yes is granted)
+    module _ (same : u ≡ false) {t : Bool} (has : t ≡ supports_endpoint d q.src_endpoint) where
+      pub other_endpoint : not t ≡ true → INVALID_EP ≡ source_status d long q
+      unfolding source_status
+      other_endpoint denied = rw (said_yes refl (sym is ∙ same), said_no has denied)
+
+      pub source_ours : not t ≡ false → SUCCESS ≡ source_status d long q
+      unfolding source_status
+      source_ours granted = rw (said_yes refl (sym is ∙ same), said_yes has granted)
 
 -- ---- the table
 

@@ -73,7 +73,7 @@ fn source_status(
 ) -> BindStatus
     ensures { bind_code result ≡ source_status device ieee_addr request }
 {
-    if request.src_address.0 != ieee_addr.0 {
+    if request.src_address != ieee_addr {
         return BindStatus::NotSupported;
     }
     if !device.supports_endpoint(request.src_endpoint) {

@@ -6,11 +6,11 @@ use Rattle.zdo_discovery.proofs.discovery.on_ieee_addr.Goals as goal
 
 ruleset laws = (rules, ieee_ours, ieee_other)
 
-pub returns-then-asked-nwk_addr : goal.returns-then-asked-nwk_addr
-returns-then-asked-nwk_addr c = went_on _ _ _ _ c.in_ok-request.ensures (search laws)
+pub returns-then-eq : goal.returns-then-eq
+returns-then-eq c = went_on _ _ _ _ c.in_ok-request.ensures (search (laws, c.if-eq.ensures))
 
 pub returns : goal.returns
-returns c = went_on _ _ _ _ c.in_ok-request.ensures (search laws)
+returns c = went_on _ _ _ _ c.in_ok-request.ensures (search (laws, c.if-eq.ensures))
 
 pub returns-in_err-request : goal.returns-in_err-request
 returns-in_err-request c = passed_wrote _ _ _ _ c.in_err-request.ensures c.from_residual.ensures

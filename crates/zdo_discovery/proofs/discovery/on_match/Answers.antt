@@ -12,13 +12,13 @@ pub matched_rsp-requires-clause-payload_value : goal.matched_rsp-requires-clause
 unfolding on_match
 matched_rsp-requires-clause-payload_value c = search laws
 
-pub returns-then-request-nwk_addr : goal.returns-then-request-nwk_addr
+pub returns-then-eq : goal.returns-then-eq
 unfolding on_match
-returns-then-request-nwk_addr c = went_on _ _ _ _ c.in_ok-request.ensures (search laws)
+returns-then-eq c = went_on _ _ _ _ c.in_ok-request.ensures (search (laws, c.if-eq.ensures))
 
 pub returns : goal.returns
 unfolding on_match
-returns c = went_on _ _ _ _ c.in_ok-request.ensures (search laws)
+returns c = went_on _ _ _ _ c.in_ok-request.ensures (search (laws, c.if-eq.ensures))
 
 pub returns-in_err-request : goal.returns-in_err-request
 returns-in_err-request c = passed_wrote _ _ _ _ c.in_err-request.ensures c.from_residual.ensures

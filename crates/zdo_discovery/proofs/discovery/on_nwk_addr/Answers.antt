@@ -9,8 +9,8 @@ ruleset laws = (rules, nwk_ours, nwk_other)
 pub returns-in_err-request : goal.returns-in_err-request
 returns-in_err-request c = passed_wrote _ _ _ _ c.in_err-request.ensures c.from_residual.ensures
 
-pub returns-then-asked-ieee_addr : goal.returns-then-asked-ieee_addr
-returns-then-asked-ieee_addr c = went_on _ _ _ _ c.in_ok-request.ensures (search laws)
+pub returns-then-eq : goal.returns-then-eq
+returns-then-eq c = went_on _ _ _ _ c.in_ok-request.ensures (search (laws, c.if-eq.ensures))
 
 pub returns : goal.returns
-returns c = went_on _ _ _ _ c.in_ok-request.ensures (search laws)
+returns c = went_on _ _ _ _ c.in_ok-request.ensures (search (laws, c.if-eq.ensures))

@@ -7,13 +7,13 @@ use Rattle.zdo_discovery.proofs.discovery.on_power.Goals as goal
 
 ruleset laws = (rules, about_ours, about_other)
 
-pub returns-then-asked-nwk_addr : goal.returns-then-asked-nwk_addr
+pub returns-then-eq : goal.returns-then-eq
 unfolding on_power
-returns-then-asked-nwk_addr c = went_on _ _ _ _ c.in_ok-request.ensures (search laws)
+returns-then-eq c = went_on _ _ _ _ c.in_ok-request.ensures (search (laws, c.if-eq.ensures))
 
 pub returns : goal.returns
 unfolding on_power
-returns c = went_on _ _ _ _ c.in_ok-request.ensures (search laws)
+returns c = went_on _ _ _ _ c.in_ok-request.ensures (search (laws, c.if-eq.ensures))
 
 pub returns-in_err-request : goal.returns-in_err-request
 returns-in_err-request c = passed_wrote _ _ _ _ c.in_err-request.ensures c.from_residual.ensures

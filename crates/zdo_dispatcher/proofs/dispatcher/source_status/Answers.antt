@@ -5,8 +5,8 @@ use Rattle.zdo_dispatcher.proofs.dispatcher.source_status.Goals as goal
 
 ruleset laws = (rules, other_address, other_endpoint, source_ours)
 
-pub returns-then-request-ieee_addr : goal.returns-then-request-ieee_addr
-returns-then-request-ieee_addr c = search laws
+pub returns-then-ne : goal.returns-then-ne
+returns-then-ne c = search laws
 
 pub returns-then-not-supports_endpoint : goal.returns-then-not-supports_endpoint
 returns-then-not-supports_endpoint c = search laws
