@@ -1,0 +1,30 @@
+// A device with the two pools that its records point into, where they are good together (document 01, "Device tables and sizes").
+ghost use Rattle.std.specs.Prelude.{◌≡◌, true};
+ghost use Rattle.std.specs.Option.{is_some, IfSome};
+ghost use Rattle.zdo_device.specs.Tables.{pools, good_device};
+
+use crate::descriptor::DeviceDescriptorConfig;
+
+// Tables that were checked.
+#[derive(Clone, Copy)]
+pub struct Tables<'a> {
+    pub device: &'a DeviceDescriptorConfig,
+    pub inputs: &'a [u16],
+    pub outputs: &'a [u16],
+    pub ghost good: { good_device (pools inputs.now outputs.now) device.now ≡ true },
+}
+
+// A device's tables, or none where they are not good with these pools (document 01, refusal 1).
+pub fn checked<'a>(
+    device: &'a DeviceDescriptorConfig,
+    inputs: &'a [u16],
+    outputs: &'a [u16],
+) -> Option<Tables<'a>>
+    ensures found { is_some result ≡ good_device (pools inputs.now outputs.now) device.now }
+    ensures same { IfSome result (λ t. (t.device.now ≡ device.now) × (t.inputs.now ≡ inputs.now) × (t.outputs.now ≡ outputs.now)) }
+{
+    if !device.good_tables(inputs, outputs) {
+        return None;
+    }
+    Some(Tables { device, inputs, outputs })
+}
