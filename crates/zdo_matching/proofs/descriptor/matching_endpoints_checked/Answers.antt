@@ -4,10 +4,10 @@ use borrow.Author.Rules.{rules}
 use Rattle.zdo_device.proofs.Records.{good_count}
 use Rattle.zdo_matching.proofs.Found.{found_may, found_next, used_first, used_end}
 use Rattle.zdo_matching.proofs.descriptor.matching_endpoints_checked.Goals as goal
-
 use native.Mathlib.Omega.{arith}
 use lib.ListN.{length-take}
 use Prim.Native.Nat.{◌<◌}
+
 ruleset laws = (rules, good_count, found_may, found_next, used_first, used_end)
 
 pub shared_ref_as_front-ep-items : goal.shared_ref_as_front-ep-items
