@@ -1,11 +1,12 @@
 -- The simple reply: the descriptor is written into a scratch, and then handed on as a list of bytes. Assumes nothing.
 use Rattle.std.specs.Prelude.{Option, Some, None, Result, Ok, Err}
+use Rattle.std.specs.Option.{is_some, IfSome}
 use Rattle.std.specs.Result.{IsErr, IsErrAnd}
 use Prim.Native.Nat.{ℕ, ◌%◌, ◌/◌, ◌≤◌, ◌<◌, min, zero, suc}
 use native.Mathlib.Nat.{mod-eq_of_lt}
 use native.Mathlib.Omega.{arith}
 use mathlib.Core.Path.{◌≡◌, refl, sym}
-use mathlib.Core.Bool.{Bool, true, false, not}
+use mathlib.Core.Bool.{Bool, true, false}
 use mathlib.Core.List.{List, [], ◌∷◌, ◌++◌, map, map-append, append-nil, append_assoc}
 use lib.Dec.{leb}
 use lib.ListN.{length, take, drop, length-take}
@@ -24,11 +25,12 @@ use Rattle.zigbee_types.proofs.Outcomes.{refused, granted, wrote_refused, wrote_
 use Rattle.zigbee_types.proofs.Outcomes as outcomes
 use Rattle.zigbee_types.proofs.Passed.{passed}
 use Rattle.zigbee_types.proofs.Runs.{laid_append}
-use Rattle.zigbee_types.proofs.Scans.{said_no, said_yes}
 use Rattle.simple_descriptor.specs.SimpleDescriptor.{Endpoint, endpoint_with, simple_descriptor_of, cluster_count, simple_written}
 use Rattle.simple_descriptor.proofs.Written.{simple_length}
 use Rattle.zdo_replies.specs.Replies.{header, endpoint_list, list_rsp, empty_rsp, described_rsp}
 use Rattle.zdo_device.specs.Tables.{Pools, endpoint_record, good_device, endpoint_of, clusters_of}
+use Rattle.zdo_device.specs.Checked.{pools_of}
+use Rattle.zdo_device.specs.declared.tables.Tables.{Tables}
 use Rattle.zdo_device.specs.declared.descriptor.EndpointDescriptor.{EndpointDescriptor}
 use Rattle.zdo_device.specs.declared.descriptor.DeviceDescriptorConfig.{DeviceDescriptorConfig}
 use Rattle.zdo_device.specs.declared.descriptor.Side.TheVariants.{Input, Output}
@@ -153,21 +155,21 @@ module _ (seq : ℕ) (a : ShortAddress) (p : Pools) (d : DeviceDescriptorConfig)
     unfolding simple_rsp_of option
     simple_none is w = rw (← f, is) w
 
-  -- of tables that are good
+-- the tables were checked
+module _ (seq : ℕ) (a : ShortAddress) (p : Pools) (d : DeviceDescriptorConfig) (n : ℕ) {r : Option Tables} (found : is_some r ≡ good_device p d) where
+  -- good tables
   pub simple_good :
-      {t : Bool}
-      → t ≡ good_device p d
-      → not t ≡ false
-      → Wrote (simple_rsp_of seq a p d n) before told after
+      {t : Tables} {before after : List ℕ} {told : Outcome ℕ}
+      → r ≡ Some t
+      → IfSome r (λ t. (t.device.now ≡ d) × (pools_of t ≡ p))
+      → Wrote (simple_rsp_of seq a (pools_of t) t.device.now n) before told after
       → Wrote (simple_desc_rsp seq a p d n) before told after
   unfolding simple_desc_rsp
-  simple_good is fine w = rw (said_yes is fine) w
+  simple_good is same w =
+      let there = rw is at same in
+      rw (← found, is) (rw (there.0, there.1) at w)
 
--- and of others: refusal 1
-pub simple_bad :
-    (seq : ℕ) (a : ShortAddress) (p : Pools) (d : DeviceDescriptorConfig) (n : ℕ) (out : List ℕ) {t : Bool}
-    → t ≡ good_device p d
-    → not t ≡ true
-    → Wrote (simple_desc_rsp seq a p d n) out (says (Err BadTables)) out
-unfolding simple_desc_rsp says
-simple_bad seq a p d n out is bad = rw (said_no is bad) (wrote_refused 1 out)
+  -- and others: refusal 1
+  pub simple_bad : (out : List ℕ) → r ≡ None → Wrote (simple_desc_rsp seq a p d n) out (says (Err BadTables)) out
+  unfolding simple_desc_rsp says
+  simple_bad out none = rw (← found, none) (wrote_refused 1 out)

@@ -4,13 +4,15 @@ ghost use Rattle.zigbee_types.specs.Outcome.{Wrote};
 ghost use Rattle.zigbee_types.specs.Answers.{says};
 ghost use Rattle.simple_descriptor.specs.SimpleDescriptor.{simple_written};
 ghost use Rattle.zdo_replies.specs.Replies.{described_rsp};
-ghost use Rattle.zdo_device.specs.Tables.{pools, record_fits, good_device, endpoint_of};
+ghost use Rattle.zdo_device.specs.Tables.{pools, record_fits, endpoint_of};
+ghost use Rattle.zdo_device.specs.Checked.{pools_of};
 ghost use Rattle.zdo_device_rsp.specs.TableReplies.{active_begun, active_ep_rsp, simple_rsp_of, simple_desc_rsp};
 
 use byte::write_u8;
 use simple_descriptor::descriptor::write;
 use zdo_desc_rsp::descriptor::{empty_rsp, write_header};
 use zdo_device::descriptor::{DeviceDescriptorConfig, EndpointDescriptor, Side};
+use zdo_device::tables::Tables;
 use zdo_match_rsp::descriptor::list_rsp;
 use zdo_replies::descriptor::{STATUS_NOT_ACTIVE, STATUS_SUCCESS};
 use zigbee_types::{Refusal, ShortAddress};
@@ -57,6 +59,7 @@ pub fn begin_active_ep_rsp(
 // Builds a Simple_Desc_rsp (2.4.4.2.5): seq, status, NWKAddrOfInterest, length, simple descriptor. An unknown endpoint yields
 // NOT_ACTIVE with length 0. Bad tables are refused, then more than 28 clusters, then too short a buffer; nothing is written in any of
 // these cases.
+
 pub fn simple_desc_rsp<'a>(
     device: DeviceDescriptorConfig,
     seq: u8,
@@ -68,28 +71,25 @@ pub fn simple_desc_rsp<'a>(
 ) -> Result<usize, Refusal>
     ensures { Wrote (simple_desc_rsp seq nwk_addr (pools inputs.now outputs.now) device endpoint) out.old (says result) out.new }
 {
-    if !device.good_tables(inputs, outputs) {
+    let Some(tables) = Tables::checked(&device, inputs, outputs) else {
         return Err(Refusal::BadTables);
-    }
-    simple_desc_rsp_checked(device, seq, nwk_addr, endpoint, inputs, outputs, out)
+    };
+    simple_desc_rsp_checked(tables, seq, nwk_addr, endpoint, out)
 }
 
 // The same, of tables that were checked.
-pub fn simple_desc_rsp_checked<'a>(
-    device: DeviceDescriptorConfig,
+pub fn simple_desc_rsp_checked(
+    tables: Tables,
     seq: u8,
     nwk_addr: ShortAddress,
     endpoint: u8,
-    inputs: &'a [u16],
-    outputs: &'a [u16],
     out: &mut [u8],
 ) -> Result<usize, Refusal>
-    requires { good_device (pools inputs.now outputs.now) device ≡ true }
-    ensures { Wrote (simple_rsp_of seq nwk_addr (pools inputs.now outputs.now) device endpoint) out.old (says result) out.new }
+    ensures { Wrote (simple_rsp_of seq nwk_addr (pools_of tables.entry) tables.entry.device.now endpoint) out.old (says result) out.new }
 {
-    let found = device.endpoint(endpoint);
+    let found = tables.device.endpoint(endpoint);
     match found {
-        Some(ep) => described_rsp(ep, seq, nwk_addr, inputs, outputs, out),
+        Some(ep) => described_rsp(ep, seq, nwk_addr, tables.inputs, tables.outputs, out),
         None => empty_rsp(seq, STATUS_NOT_ACTIVE, nwk_addr, out),
     }
 }

@@ -1,5 +1,7 @@
 -- The records of a run that match, for a loop that goes through all of them, and what the tests before it refuse. Assumes nothing.
 use Rattle.std.specs.Prelude.{Ok, Err}
+use Rattle.zdo_device.specs.Checked.{pools_of}
+use Rattle.zdo_device.specs.declared.tables.Tables.{Tables}
 use Prim.Native.Nat.{ℕ, ◌+◌, ◌≤◌, ◌<◌}
 use native.Mathlib.Numerals.{add-one}
 use native.Mathlib.Omega.{arith}
@@ -130,29 +132,24 @@ pub begun_refused : (n : ℕ) (before : List ℕ) → Begun (refusal n) before (
 unfolding begun_length begun mapped
 begun_refused n before = record { said = refl; left = refl }
 
-module _
-    (p : Pools)
-    (d : DeviceDescriptorConfig)
-    (q : MatchDescReq)
-    (payload before : List ℕ)
-    {t : Bool}
-    (is : t ≡ good_device p d) where
+module _ (p : Pools) (d : DeviceDescriptorConfig) (q : MatchDescReq) (payload before : List ℕ) where
   -- refusal 1
-  pub refused_tables : not t ≡ true → Begun (matching_endpoints p d q payload) before (matching_says (Err BadTables)) before
+  pub refused_tables : false ≡ good_device p d → Begun (matching_endpoints p d q payload) before (matching_says (Err BadTables)) before
   unfolding matching_says mapped says matching_endpoints
-  refused_tables bad = rw (said_no is bad) (begun_refused 1 before)
+  refused_tables bad = rw (← bad) (begun_refused 1 before)
 
-  module _ (fine : not t ≡ false) {u : Bool} (places : u ≡ good_places q payload) where
+  module _ (good : true ≡ good_device p d) {u : Bool} (places : u ≡ good_places q payload) where
     -- refusal 3
     pub refused_places : not u ≡ true → Begun (matching_endpoints p d q payload) before (matching_says (Err Malformed)) before
     unfolding matching_says mapped says matching_endpoints matched_in
-    refused_places bad = rw (said_yes is fine, said_no places bad) (begun_refused 3 before)
+    refused_places bad = rw (← good, said_no places bad) (begun_refused 3 before)
 
     -- otherwise what is found
     pub found_matched :
         not u ≡ false
-        → (m : Matched) {after : List ℕ}
-        → Begun (answer (match_list (wanted q payload) (resolved_in p (used d)))) before (answer m.written) after
+        → (t : Tables) (m : Matched) {after : List ℕ}
+        → (t.device.now ≡ d) × (pools_of t ≡ p)
+        → Begun (answer (match_list (wanted q payload) (resolved_in (pools_of t) (used t.device.now)))) before (answer m.written) after
         → Begun (matching_endpoints p d q payload) before (matching_says (Ok m)) after
     unfolding matching_says mapped says matching_endpoints matched_in
-    found_matched good m h = rw (said_yes is fine, said_yes places good) h
+    found_matched fine t m same h = rw (← good, said_yes places fine) (rw (same.0, same.1) at h)

@@ -3,11 +3,13 @@ ghost use Rattle.std.specs.Prelude.{◌≤◌, ◌≡◌, true, leb, length};
 ghost use Rattle.zigbee_types.specs.Outcome.{answer, Begun};
 ghost use Rattle.zigbee_types.specs.Layout.{behind, entries_at};
 ghost use Rattle.zdo_device.specs.Tables.{pools, used, record_fits, good_device, endpoint_of, resolved_in};
+ghost use Rattle.zdo_device.specs.Checked.{pools_of};
 ghost use Rattle.zdo_matching.specs.Matching.{wanted, profile_matches, shared, matches, match_list, good_places, matching_endpoints, may_match, matched_with};
 ghost use Rattle.zdo_matching.specs.Answers.{matching_says};
 
 use byte::read_u16;
 use zdo_device::descriptor::{DeviceDescriptorConfig, EndpointDescriptor, Side};
+use zdo_device::tables::Tables;
 use zdo_requests::descriptor::MatchDescReq;
 use zigbee_types::{Places, Refusal};
 
@@ -33,32 +35,37 @@ pub fn matching_endpoints<'a>(
 ) -> Result<Matched, Refusal>
     ensures { Begun (matching_endpoints (pools inputs.now outputs.now) device request payload.now) out.old (matching_says result) out.new }
 {
-    if !device.good_tables(inputs, outputs) {
+    let Some(tables) = Tables::checked(&device, inputs, outputs) else {
         return Err(Refusal::BadTables);
-    }
+    };
     if !good_places(request, payload) {
         return Err(Refusal::Malformed);
     }
-    let matched = matching_endpoints_checked(device, inputs, outputs, request, payload, out);
-    Ok(matched)
+    Ok(matching_endpoints_checked(tables, request, payload, out))
 }
 
 // The same, of tables and lists that were checked.
-pub fn matching_endpoints_checked<'a>(
-    device: DeviceDescriptorConfig,
-    inputs: &'a [u16],
-    outputs: &'a [u16],
+pub fn matching_endpoints_checked(
+    tables: Tables,
     request: MatchDescReq,
     payload: &[u8],
     out: &mut [u8],
 ) -> Matched
-    requires device_value { good_device (pools inputs.now outputs.now) device ≡ true }
-    requires payload_value { good_places request payload.now ≡ true }
-    ensures { Begun (answer (match_list (wanted request payload.now) (resolved_in (pools inputs.now outputs.now) (used device)))) out.old (answer result.written) out.new }
+    requires { good_places request payload.now ≡ true }
+    ensures { Begun (answer (match_list (wanted request payload.now) (resolved_in (pools_of tables.entry) (used tables.entry.device.now)))) out.old (answer result.written) out.new }
 {
+    let device = tables.device;
     let mut matched = Matched { written: 0 };
     for ep in &device.endpoints[..device.endpoint_count] {
-        matched = match_record(matched, *ep, inputs, outputs, request, payload, out);
+        matched = match_record(
+            matched,
+            *ep,
+            tables.inputs,
+            tables.outputs,
+            request,
+            payload,
+            out,
+        );
     }
     matched
 }

@@ -1,13 +1,9 @@
--- `simple_desc_rsp` meets its contract, at each of its ways out. Assumes nothing.
-use borrow.Author.Rules.{rules}
-use Rattle.zigbee_types.proofs.Scans.{said_yes}
+-- `simple_desc_rsp` meets its contract: the tables are good, or not. Assumes nothing.
 use Rattle.zdo_device_rsp.proofs.Described.{simple_good, simple_bad}
 use Rattle.zdo_device_rsp.proofs.descriptor.simple_desc_rsp.Goals as goal
 
-ruleset laws = (rules, said_yes, simple_good, simple_bad)
+pub returns-in_default : goal.returns-in_default
+returns-in_default c = simple_bad _ _ _ _ _ c.checked.ensures.found _ c.in_default.is
 
 pub returns : goal.returns
-returns c = search laws
-
-pub returns-then-not-good_tables : goal.returns-then-not-good_tables
-returns-then-not-good_tables c = search laws
+returns c = simple_good _ _ _ _ _ c.checked.ensures.found c.in-Some.is c.checked.ensures.same c.simple_desc_rsp_checked.ensures

@@ -6,11 +6,11 @@ use Rattle.zdo_matching.proofs.descriptor.matching_endpoints.Goals as goal
 
 ruleset laws = (rules, said_yes, refused_tables, refused_places, found_matched)
 
-pub returns-then-not-good_tables : goal.returns-then-not-good_tables
-returns-then-not-good_tables c = search laws
+pub returns-in_default : goal.returns-in_default
+returns-in_default c = let bad = c.in_default.ensures.found in search laws
 
 pub returns-then-not-good_places : goal.returns-then-not-good_places
-returns-then-not-good_places c = search laws
+returns-then-not-good_places c = let found = c.in-Some.ensures.found in search laws
 
 pub returns : goal.returns
-returns c = search laws
+returns c = let found = c.in-Some.ensures.found in let same = c.in-Some.ensures.same in search laws

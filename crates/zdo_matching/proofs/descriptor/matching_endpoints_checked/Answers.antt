@@ -4,6 +4,9 @@ use borrow.Author.Rules.{rules}
 use Rattle.zdo_device.proofs.Records.{good_count}
 use Rattle.zdo_matching.proofs.Found.{found_may, found_next, used_first, used_end}
 use Rattle.zdo_matching.proofs.descriptor.matching_endpoints_checked.Goals as goal
+use native.Mathlib.Omega.{arith}
+use lib.ListN.{length-take}
+use Prim.Native.Nat.{◌<◌}
 
 ruleset laws = (rules, good_count, found_may, found_next, used_first, used_end)
 
@@ -21,3 +24,9 @@ loop-ep-preserved c = search laws
 
 pub returns : goal.returns
 returns c = search laws
+
+pub offset_bounds-ep-items-ep-index : goal.offset_bounds-ep-items-ep-index
+offset_bounds-ep-items-ep-index c =
+    let few = good_count _ _ c.args.tables.good in
+    let short : c.loop-ep.ep-index < 32 = omega (arith, rw length-take at c.loop-ep-test.true) in
+    search rules
