@@ -1,11 +1,12 @@
 // The seven discovery requests, from payload to reply. (Added by document 01; 2.4.3.1, 2.4.4.2.)
-ghost use Rattle.std.specs.Prelude.{◌≤◌, ◌≡◌, true};
+ghost use Rattle.std.specs.Prelude.{◌≡◌, true};
 ghost use Rattle.zigbee_types.specs.Outcome.{and_then, Wrote};
 ghost use Rattle.zigbee_types.specs.Answers.{says};
 ghost use Rattle.zdo_requests.specs.Requests.{nwk_addr_req_in, ieee_addr_req_in, addr_of_interest_req_in, simple_desc_req_in, match_desc_req_in};
 ghost use Rattle.zdo_replies.specs.Codes.{discovery_code};
 ghost use Rattle.zdo_replies.specs.Replies.{list_rsp};
-ghost use Rattle.zdo_device.specs.Tables.{pools, used, good_device, resolved_in};
+ghost use Rattle.zdo_device.specs.Tables.{used, resolved_in};
+ghost use Rattle.zdo_device.specs.Checked.{pools_of};
 ghost use Rattle.zdo_matching.specs.Matching.{wanted, match_list, good_places};
 ghost use Rattle.zdo_discovery.specs.Host.{host_with};
 ghost use Rattle.zdo_discovery.specs.Discovery.{our_address, on_nwk_addr, on_ieee_addr, not_ours, on_node, on_power, on_simple, on_active, on_match, discovery};
@@ -17,7 +18,7 @@ use zdo_addr_rsp::descriptor::{addr_rsp, addr_rsp_error};
 use zdo_desc_rsp::descriptor::{
     active_ep_rsp_error, descriptor_rsp_error, node_desc_rsp, power_desc_rsp, simple_desc_rsp_error,
 };
-use zdo_device::descriptor::DeviceDescriptorConfig;
+use zdo_device::tables::Tables;
 use zdo_device_rsp::descriptor::{active_ep_rsp, simple_desc_rsp_checked};
 use zdo_match_req::descriptor::parse_match_desc_req;
 use zdo_match_rsp::descriptor::{match_desc_rsp, match_desc_rsp_error};
@@ -146,126 +147,98 @@ fn on_power(
     descriptor_rsp_error(request.seq, not_ours(node), asked, out)
 }
 
-// Replies to a Simple_Desc_req (2.4.3.1.5), of tables that were checked.
-fn on_simple<'a>(
-    device: DeviceDescriptorConfig,
+// Replies to a Simple_Desc_req (2.4.3.1.5).
+fn on_simple(
+    tables: Tables,
     nwk_addr: ShortAddress,
-    inputs: &'a [u16],
-    outputs: &'a [u16],
     payload: &[u8],
     out: &mut [u8],
 ) -> Result<usize, Refusal>
-    requires { good_device (pools inputs.now outputs.now) device ≡ true }
-    ensures { Wrote (and_then (simple_desc_req_in payload.now) (on_simple (pools inputs.now outputs.now) device nwk_addr)) out.old (says result) out.new }
+    ensures { Wrote (and_then (simple_desc_req_in payload.now) (on_simple (pools_of tables.entry) tables.entry.device.now nwk_addr)) out.old (says result) out.new }
 {
     let request = parse_simple_desc_req(payload)?;
     let asked = request.nwk_addr_of_interest;
     if asked == nwk_addr {
-        return simple_desc_rsp_checked(
-            device,
-            request.seq,
-            asked,
-            request.endpoint,
-            inputs,
-            outputs,
-            out,
-        );
+        return simple_desc_rsp_checked(tables, request.seq, asked, request.endpoint, out);
     }
-    simple_desc_rsp_error(request.seq, not_ours(device.node), asked, out)
+    simple_desc_rsp_error(request.seq, not_ours(tables.device.node), asked, out)
 }
 
-// Replies to an Active_EP_req (2.4.3.1.6), of a device whose count of records was checked.
+// Replies to an Active_EP_req (2.4.3.1.6).
 fn on_active(
-    device: DeviceDescriptorConfig,
+    tables: Tables,
     nwk_addr: ShortAddress,
     payload: &[u8],
     out: &mut [u8],
 ) -> Result<usize, Refusal>
-    requires { device.endpoint_count ≤ 32 }
-    ensures { Wrote (and_then (addr_of_interest_req_in payload.now) (on_active device nwk_addr)) out.old (says result) out.new }
+    ensures { Wrote (and_then (addr_of_interest_req_in payload.now) (on_active tables.entry.device.now nwk_addr)) out.old (says result) out.new }
 {
     let request = parse_addr_of_interest_req(payload)?;
     let asked = request.nwk_addr_of_interest;
     if asked == nwk_addr {
-        return active_ep_rsp(device, request.seq, asked, out);
+        return active_ep_rsp(*tables.device, request.seq, asked, out);
     }
-    active_ep_rsp_error(request.seq, not_ours(device.node), asked, out)
+    active_ep_rsp_error(request.seq, not_ours(tables.device.node), asked, out)
 }
 
 // Builds the Match_Desc_rsp to a request about us: the list is made in places of its own, of which there are enough, so it is
 // whole.
-fn matched_rsp<'a>(
-    device: DeviceDescriptorConfig,
-    inputs: &'a [u16],
-    outputs: &'a [u16],
+fn matched_rsp(
+    tables: Tables,
     request: MatchDescReq,
     payload: &[u8],
     out: &mut [u8],
 ) -> Result<usize, Refusal>
-    requires device_value { good_device (pools inputs.now outputs.now) device ≡ true }
-    requires payload_value { good_places request payload.now ≡ true }
-    ensures { Wrote (list_rsp request.seq request.nwk_addr_of_interest (match_list (wanted request payload.now) (resolved_in (pools inputs.now outputs.now) (used device)))) out.old (says result) out.new }
+    requires { good_places request payload.now ≡ true }
+    ensures { Wrote (list_rsp request.seq request.nwk_addr_of_interest (match_list (wanted request payload.now) (resolved_in (pools_of tables.entry) (used tables.entry.device.now)))) out.old (says result) out.new }
 {
     let mut matches = [0u8; MATCHES];
-    let matched = matching_endpoints_checked(
-        device,
-        inputs,
-        outputs,
-        request,
-        payload,
-        &mut matches,
-    );
+    let matched = matching_endpoints_checked(tables, request, payload, &mut matches);
     let written = matched.written;
     let asked = request.nwk_addr_of_interest;
     match_desc_rsp(request.seq, asked, &matches[..written], out)
 }
 
-// Replies to a Match_Desc_req (2.4.3.1.7), of tables that were checked.
-fn on_match<'a>(
-    device: DeviceDescriptorConfig,
+// Replies to a Match_Desc_req (2.4.3.1.7).
+fn on_match(
+    tables: Tables,
     nwk_addr: ShortAddress,
-    inputs: &'a [u16],
-    outputs: &'a [u16],
     payload: &[u8],
     out: &mut [u8],
 ) -> Result<usize, Refusal>
-    requires { good_device (pools inputs.now outputs.now) device ≡ true }
-    ensures { Wrote (and_then (match_desc_req_in payload.now) (on_match device.node.logical_type (resolved_in (pools inputs.now outputs.now) (used device)) nwk_addr payload.now)) out.old (says result) out.new }
+    ensures { Wrote (and_then (match_desc_req_in payload.now) (on_match tables.entry.device.now.node.logical_type (resolved_in (pools_of tables.entry) (used tables.entry.device.now)) nwk_addr payload.now)) out.old (says result) out.new }
 {
     let request = parse_match_desc_req(payload)?;
     if request.nwk_addr_of_interest == nwk_addr {
-        return matched_rsp(device, inputs, outputs, request, payload, out);
+        return matched_rsp(tables, request, payload, out);
     }
-    match_desc_rsp_error(request.seq, not_ours(device.node), out)
+    match_desc_rsp_error(request.seq, not_ours(tables.device.node), out)
 }
 
 // ---- by the cluster
 
 // Replies to a discovery request, by its cluster; any other cluster is refused. A malformed payload is refused, then a descriptor of
-// too many clusters, then too short a buffer; nothing is written in any of these cases. The dispatcher has checked the tables.
-pub fn discovery<'a>(
-    device: DeviceDescriptorConfig,
+// too many clusters, then too short a buffer; nothing is written in any of these cases.
+pub fn discovery(
+    tables: Tables,
     ieee_addr: IeeeAddress,
     nwk_addr: ShortAddress,
-    inputs: &'a [u16],
-    outputs: &'a [u16],
     cluster: u16,
     payload: &[u8],
     out: &mut [u8],
 ) -> Result<usize, Refusal>
-    requires { good_device (pools inputs.now outputs.now) device ≡ true }
-    ensures { Wrote (discovery (host_with device ieee_addr nwk_addr (pools inputs.now outputs.now)) cluster payload.now) out.old (says result) out.new }
+    ensures { Wrote (discovery (host_with tables.entry.device.now ieee_addr nwk_addr (pools_of tables.entry)) cluster payload.now) out.old (says result) out.new }
 {
-    let node = device.node;
-    let power = device.power;
+    let node = tables.device.node;
+    let power = tables.device.power;
     match cluster {
         NWK_ADDR_REQ => on_nwk_addr(ieee_addr, nwk_addr, payload, out),
         IEEE_ADDR_REQ => on_ieee_addr(ieee_addr, nwk_addr, payload, out),
         NODE_DESC_REQ => on_node(node, nwk_addr, payload, out),
         POWER_DESC_REQ => on_power(node, power, nwk_addr, payload, out),
-        SIMPLE_DESC_REQ => on_simple(device, nwk_addr, inputs, outputs, payload, out),
-        ACTIVE_EP_REQ => on_active(device, nwk_addr, payload, out),
-        MATCH_DESC_REQ => on_match(device, nwk_addr, inputs, outputs, payload, out),
+        SIMPLE_DESC_REQ => on_simple(tables, nwk_addr, payload, out),
+        ACTIVE_EP_REQ => on_active(tables, nwk_addr, payload, out),
+        MATCH_DESC_REQ => on_match(tables, nwk_addr, payload, out),
         _ => Err(Refusal::UnknownCluster),
     }
 }

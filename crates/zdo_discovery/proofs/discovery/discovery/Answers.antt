@@ -1,13 +1,9 @@
 -- `discovery` meets its contract, for each cluster. Assumes nothing.
 use borrow.Author.Rules.{rules}
-use Rattle.zdo_device.proofs.Records.{good_count}
 use Rattle.zdo_discovery.proofs.ByCluster.{by_nwk_addr, by_ieee_addr, by_node, by_power, by_simple, by_active, by_match, by_none}
 use Rattle.zdo_discovery.proofs.discovery.discovery.Goals as goal
 
-ruleset laws = (rules, good_count, by_nwk_addr, by_ieee_addr, by_node, by_power, by_simple, by_active, by_match)
-
-pub on_active-requires : goal.on_active-requires
-on_active-requires c = search laws
+ruleset laws = (rules, by_nwk_addr, by_ieee_addr, by_node, by_power, by_simple, by_active, by_match)
 
 pub returns-in-0 : goal.returns-in-0
 returns-in-0 c = search laws

@@ -6,10 +6,10 @@ use Rattle.zdo_discovery.proofs.discovery.matched_rsp.Goals as goal
 ruleset laws = (rules, matched_replied)
 
 pub slice_bounds-matches-end : goal.slice_bounds-matches-end
-slice_bounds-matches-end c = matched_within _ _ _ (search rules) c.matching_endpoints_checked-matched.ensures (search rules)
+slice_bounds-matches-end c = matched_within _ _ _ c.args.tables.good c.matching_endpoints_checked-matched.ensures (search rules)
 
 pub slice_bounds-match_desc_rsp-end : goal.slice_bounds-match_desc_rsp-end
-slice_bounds-match_desc_rsp-end c = matched_long _ _ _ (search rules) c.matching_endpoints_checked-matched.ensures (search rules)
+slice_bounds-match_desc_rsp-end c = matched_long _ _ _ c.args.tables.good c.matching_endpoints_checked-matched.ensures (search rules)
 
 pub returns : goal.returns
 returns c = search laws

@@ -8,9 +8,9 @@ use Rattle.zdo_discovery.proofs.discovery.on_match.Goals as goal
 
 ruleset laws = (rules, match_places, about_ours, about_other)
 
-pub matched_rsp-requires-clause-payload_value : goal.matched_rsp-requires-clause-payload_value
+pub matched_rsp-requires : goal.matched_rsp-requires
 unfolding on_match
-matched_rsp-requires-clause-payload_value c = search laws
+matched_rsp-requires c = search laws
 
 pub returns-then-eq : goal.returns-then-eq
 unfolding on_match
