@@ -4,7 +4,7 @@ use Rattle.std.specs.Result.{IsErr, IsErrAnd}
 use Prim.Native.Nat.{ℕ, ◌^◌, ◌<◌}
 use native.Mathlib.Omega.{arith}
 use mathlib.Core.Path.{◌≡◌, refl, sym, ◌∙◌}
-use mathlib.Core.Bool.{Bool, true, false, not, ◌&&◌, and-eq-true_iff}
+use mathlib.Core.Bool.{Bool, true, false, not}
 use mathlib.Core.List.{List, [], ◌∷◌}
 use lib.ListN.{length}
 use borrow.Author.Tests.{ne_eqb}
@@ -77,29 +77,24 @@ left t before (refusal n) e = record { said = e; table = refl; buffer = refl }
 
 -- ---- the tables
 
--- they were found bad
-pub bad_tables_lem :
-    (h : Host) (t : BindingTable) (cluster : ℕ) (payload out : List ℕ) {x y : Bool}
-    → x ≡ good_device h.pools h.device
-    → y ≡ good_sizes t.count t.limit
-    → not (x && y) ≡ true
-    → Dispatched (answered h t (asking cluster payload out)) t out (response_says (Err BadTables)) t out
-unfolding answered good_host good_table response_says
-bad_tables_lem h t cluster payload out {x} {y} device table bad =
-    let both : (x && y) ≡ (good_device h.pools h.device && good_sizes t.count t.limit) = rw (device, table) in
-    rw (said_no both bad) (dispatched_refused BadTables t out 1 refl)
+module _ (h : Host) (t : BindingTable) (cluster : ℕ) (payload out : List ℕ) where
+  -- those of the device are bad
+  pub bad_device : good_device h.pools h.device ≡ false → Dispatched (answered h t (asking cluster payload out)) t out (response_says (Err BadTables)) t out
+  unfolding answered good_host response_says
+  bad_device bad = rw bad (dispatched_refused BadTables t out 1 refl)
 
--- they were found good
-module _ (p : Pools) (d : DeviceDescriptorConfig) (t : BindingTable) {x y : Bool} (device : x ≡ good_device p d) (table : y ≡ good_sizes t.count t.limit) (good : not (x && y) ≡ false) where
-  each : (x ≡ true) × (y ≡ true)
-  each = (and-eq-true_iff x y).0 (said_yes refl good)
+  -- they are good, and the binding table is bad
+  pub bad_table :
+      good_device h.pools h.device ≡ true
+      → good_table t ≡ false
+      → Dispatched (answered h t (asking cluster payload out)) t out (response_says (Err BadTables)) t out
+  unfolding answered good_host response_says
+  bad_table good bad = rw (good, bad) (dispatched_refused BadTables t out 1 refl)
 
-  pub device_good : good_device p d ≡ true
-  device_good = sym device ∙ each.0
-
-  pub table_good : good_table t ≡ true
-  unfolding good_table
-  table_good = sym table ∙ each.1
+-- the binding table was found bad, or good
+pub table_found : (t : BindingTable) {x y : Bool} → x ≡ good_sizes t.count t.limit → x ≡ y → good_table t ≡ y
+unfolding good_table
+table_found t is found = sym is ∙ found
 
 -- ---- by the cluster, of good tables
 

@@ -10,6 +10,7 @@ use Rattle.zigbee_types.specs.Outcome.{Outcome, answer, and_then, mapped, Wrote}
 use Rattle.zigbee_types.specs.Refusals.{refusal_number}
 use Rattle.zigbee_types.specs.Statuses.{SUCCESS}
 use Rattle.zigbee_types.specs.declared.IeeeAddress.{IeeeAddress}
+use Rattle.zigbee_types.specs.declared.ShortAddress.{ShortAddress}
 use Rattle.zigbee_types.specs.declared.Refusal.{Refusal}
 use Rattle.zigbee_types.specs.declared.Refusal.TheVariants.{ShortBuffer}
 use Rattle.zigbee_types.proofs.Named.{Unnamed}
@@ -21,9 +22,9 @@ use Rattle.zdo_requests.specs.Clusters.{BIND_REQ_NUMBER, UNBIND_REQ_NUMBER, MGMT
 use Rattle.zdo_requests.specs.Requests.{bind_req_in, mgmt_leave_req_in}
 use Rattle.zdo_requests.specs.declared.descriptor.BindReq.{BindReq}
 use Rattle.zdo_replies.specs.Replies.{status_rsp}
-use Rattle.zdo_device.specs.Tables.{good_device}
+use Rattle.zdo_device.specs.Tables.{Pools, good_device}
 use Rattle.zdo_device.specs.declared.descriptor.DeviceDescriptorConfig.{DeviceDescriptorConfig}
-use Rattle.zdo_discovery.specs.Host.{Host, Asked, asking}
+use Rattle.zdo_discovery.specs.Host.{Host, Asked, host_with, asking}
 use Rattle.zdo_discovery.specs.Discovery.{discovered}
 use Rattle.zdo_dispatcher.specs.Answers.{Answer, reply, Told, replied, leaving, response_says, source_status, link_answer, on_link, answered, Dispatched}
 use Rattle.zdo_dispatcher.specs.Taken.{link_with, answered_with, Linking, Kept, AtTaken, TakenTo}
@@ -172,6 +173,15 @@ module _ (h : Host) (device : good_device h.pools h.device ≡ true) (cluster : 
       → TakenTo (answered_with h (asking cluster payload out)) cluster (Err why) out after
   unfolding AtTaken
   take_no_discovery why other w = record { at = found (Err why) other w }
+
+-- tables that were checked are the device and the pools that were given
+pub taken_from :
+    {device found : DeviceDescriptorConfig} {given pools : Pools} (long : IeeeAddress) (short : ShortAddress) (a : Asked) {cluster : ℕ} (s : Result Taken Refusal)
+    {before after : List ℕ}
+    → (found ≡ device) × (pools ≡ given)
+    → TakenTo (answered_with (host_with found long short pools) a) cluster s before after
+    → TakenTo (answered_with (host_with device long short given) a) cluster s before after
+taken_from long short a s (device, pools) w = rw (device, pools) at w
 
 -- ---- with the table
 

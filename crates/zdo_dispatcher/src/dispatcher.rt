@@ -9,7 +9,8 @@ ghost use Rattle.zdo_requests.specs.Requests.{mgmt_leave_req_in};
 ghost use Rattle.zigbee_types.specs.Statuses.{SUCCESS};
 ghost use Rattle.zdo_replies.specs.Codes.{bind_code};
 ghost use Rattle.zdo_replies.specs.Replies.{status_rsp};
-ghost use Rattle.zdo_device.specs.Tables.{pools, good_device};
+ghost use Rattle.zdo_device.specs.Tables.{pools};
+ghost use Rattle.zdo_device.specs.Checked.{pools_of};
 ghost use Rattle.zdo_discovery.specs.Host.{host_with, asking};
 ghost use Rattle.zdo_discovery.specs.Discovery.{discovered};
 ghost use Rattle.zdo_dispatcher.specs.Answers.{reply, leaving, replied, response_says, step_of, source_status, link_answer, answered, Dispatched};
@@ -21,6 +22,7 @@ use aps_binding_table::binding::{
 };
 use zdo_bind_req::descriptor::parse_bind_req;
 use zdo_device::descriptor::DeviceDescriptorConfig;
+use zdo_device::tables::Tables;
 use zdo_discovery::discovery::discovery;
 use zdo_leave_req::descriptor::parse_mgmt_leave_req;
 use zdo_replies::descriptor::{BindStatus, STATUS_SUCCESS, bind_rsp};
@@ -173,54 +175,44 @@ fn on_leave(payload: &[u8]) -> Result<Response, Refusal>
 
 // ---- discovery
 
-// Answers a discovery request, and refuses a cluster that is none of the ten. The device's tables were checked, and no binding table
-// comes into it.
-fn on_discovery<'a>(
-    device: DeviceDescriptorConfig,
+// Answers a discovery request, and refuses a cluster that is none of the ten. No binding table comes into it.
+fn on_discovery(
+    tables: Tables,
     ieee_addr: IeeeAddress,
     nwk_addr: ShortAddress,
-    inputs: &'a [u16],
-    outputs: &'a [u16],
     cluster: u16,
     payload: &[u8],
     out: &mut [u8],
 ) -> Result<Response, Refusal>
-    requires { good_device (pools inputs.now outputs.now) device ≡ true }
-    ensures { (t : BindingTable) → Dispatched (mapped (λ bytes. reply (reply_cluster cluster) bytes t) (discovered (host_with device ieee_addr nwk_addr (pools inputs.now outputs.now)) (asking cluster payload.now out.old))) t out.old (response_says result) t out.new }
+    ensures { (t : BindingTable) → Dispatched (mapped (λ bytes. reply (reply_cluster cluster) bytes t) (discovered (host_with tables.entry.device.now ieee_addr nwk_addr (pools_of tables.entry)) (asking cluster payload.now out.old))) t out.old (response_says result) t out.new }
 {
-    let written = discovery(
-        device, ieee_addr, nwk_addr, inputs, outputs, cluster, payload, out,
-    );
+    let written = discovery(tables, ieee_addr, nwk_addr, cluster, payload, out);
     told(cluster, written)
 }
 
 // ---- any request
 
-// Takes a request as far as it goes without the binding table. The tables were checked.
-fn take<'a>(
-    device: DeviceDescriptorConfig,
+// Takes a request as far as it goes without the binding table.
+fn take(
+    tables: Tables,
     ieee_addr: IeeeAddress,
     nwk_addr: ShortAddress,
-    inputs: &'a [u16],
-    outputs: &'a [u16],
     cluster: u16,
     payload: &[u8],
     out: &mut [u8],
 ) -> Result<Taken, Refusal>
-    requires { good_device (pools inputs.now outputs.now) device ≡ true }
-    ensures { TakenTo (answered_with (host_with device ieee_addr nwk_addr (pools inputs.now outputs.now)) (asking cluster payload.now out.old)) cluster result out.old out.new }
+    ensures { TakenTo (answered_with (host_with tables.entry.device.now ieee_addr nwk_addr (pools_of tables.entry)) (asking cluster payload.now out.old)) cluster result out.old out.new }
 {
+    let device = tables.device;
     match cluster {
-        BIND_REQ => take_link(Link::Bind, device, ieee_addr, cluster, payload, out),
-        UNBIND_REQ => take_link(Link::Unbind, device, ieee_addr, cluster, payload, out),
+        BIND_REQ => take_link(Link::Bind, *device, ieee_addr, cluster, payload, out),
+        UNBIND_REQ => take_link(Link::Unbind, *device, ieee_addr, cluster, payload, out),
         MGMT_LEAVE_REQ => {
             let response = on_leave(payload)?;
             Ok(Taken::Answered(response))
         }
         _ => {
-            let response = on_discovery(
-                device, ieee_addr, nwk_addr, inputs, outputs, cluster, payload, out,
-            )?;
+            let response = on_discovery(tables, ieee_addr, nwk_addr, cluster, payload, out)?;
             Ok(Taken::Answered(response))
         }
     }
@@ -243,16 +235,20 @@ pub fn dispatch<'a>(
 ) -> Responded
     ensures { Dispatched (answered (host_with device ieee_addr nwk_addr (pools inputs.now outputs.now)) table (asking cluster payload.now out.old)) table out.old (response_says result.response) result.table out.new }
 {
-    let good = device.good_tables(inputs, outputs) & good_sizes(table.count, table.limit);
-    if !good {
+    let refused = Err(Refusal::BadTables);
+    let Some(tables) = Tables::checked(&device, inputs, outputs) else {
         return Responded {
             table,
-            response: Err(Refusal::BadTables),
+            response: refused,
+        };
+    };
+    if !good_sizes(table.count, table.limit) {
+        return Responded {
+            table,
+            response: refused,
         };
     }
-    let read = take(
-        device, ieee_addr, nwk_addr, inputs, outputs, cluster, payload, out,
-    );
+    let read = take(tables, ieee_addr, nwk_addr, cluster, payload, out);
     match read {
         Ok(taken) => match taken {
             Taken::Answered(response) => {
