@@ -26,4 +26,4 @@ slice_bounds-try_read-start c = search laws
 
 pub returns : goal.returns
 unfolding power_reply_in says
-returns c = described_made _ _ c.in_ok-header.ensures _ _ _ (search rules) _ _ _ c.try_read-2.ensures (λ d x p. grind serving) c.map.ensures.cases
+returns c = described_made _ _ c.in_ok-header.ensures _ _ _ (search rules) _ _ _ (search rules) (λ d x p. grind serving) c.map.ensures.cases
