@@ -270,7 +270,7 @@ module _ (seq : ℕ) (address : ShortAddress) where
       → endpoint_record d n ≡ found
       → mapped length (option (empty_rsp seq NOT_ACTIVE address) (λ e. described_rsp seq address (endpoint_of p e)) found)
       ≡ cond (option false (λ e. ltb 28 (record_clusters e)) found) (refusal 4) (answer (option 5 (λ e. 13 + 2 * record_clusters e) found))
-  unfolding option endpoint_says
+  unfolding option
   simple_sized p d n good None f = reply_lengths.list_error seq NOT_ACTIVE address
   simple_sized p d n good (Some e) f = rw (← clusters_counted p e (good_found p d good n refl (sym f))) (described_sized (endpoint_of p e) _ refl)
 

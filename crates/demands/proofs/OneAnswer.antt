@@ -1,16 +1,15 @@
--- Each enum that holds an answer or a refusal comes back from what it says. Assumes nothing.
-use Rattle.std.specs.Prelude.{Option, Some, None, Ok, Err}
+-- Each answer or refusal comes back from what it says. Assumes nothing.
+use Rattle.std.specs.Prelude.{Result, Ok, Err}
 use Prim.Native.Nat.{ℕ}
-use mathlib.Core.Path.{◌≡◌, refl, sym, ap, ◌∙◌}
+use mathlib.Core.Path.{◌≡◌, refl, sym, ◌∙◌}
 use mathlib.Core.Bool.{cond}
 use lib.Dec.{eqb}
 use Rattle.zigbee_types.specs.Statuses.{SUCCESS, NO_ENTRY}
 use Rattle.zigbee_types.specs.Answers.{says}
 use Rattle.zigbee_types.proofs.OneOutcome.{determined, refused_back, one_wrote, one_begun}
 use Rattle.aps_binding_table.specs.Answers.{link_says}
-use Rattle.aps_binding_table.specs.declared.binding.LinkStatus.{LinkStatus}
-use Rattle.aps_binding_table.specs.declared.binding.LinkStatus.TheVariants as link
-use Rattle.zdo_device.specs.declared.descriptor.EndpointDescriptor.{EndpointDescriptor}
+use Rattle.aps_binding_table.specs.declared.binding.BindingError.{BindingError}
+use Rattle.aps_binding_table.specs.declared.binding.BindingError.TheVariants as error
 use Rattle.zdo_matching.specs.Answers.{matching_says}
 use Rattle.zdo_dispatcher.specs.Answers.{Told, replied, leaving, response_says}
 use Rattle.zdo_dispatcher.specs.declared.dispatcher.Response.{Response}
@@ -18,39 +17,25 @@ use Rattle.zdo_dispatcher.specs.declared.dispatcher.Response.TheVariants as resp
 use Rattle.zdo_dispatcher.proofs.OneDispatched.{one_dispatched}
 use Rattle.demands.specs.OneAnswer.{Determines, OneSaid, OneAnswer}
 
-one_written : Determines says
+-- whatever is answered
+one_says : (A : Type 0) → Determines (says {A = A})
 unfolding says
-one_written = determined _ Ok Err (elim [ Ok n ↦ refl | Err why ↦ refused_back Err why ])
+one_says A = determined says Ok Err (elim [ Ok a ↦ refl | Err why ↦ refused_back Err why ])
 
 -- the answer that tells a status
-abbrev link_of : ℕ → LinkStatus
-link_of status = cond (eqb status SUCCESS) link.Success (cond (eqb status NO_ENTRY) link.InvalidBinding link.TableFull)
+abbrev link_of : ℕ → Result Unit BindingError
+link_of status = cond (eqb status SUCCESS) (Ok tt) (Err (cond (eqb status NO_ENTRY) error.InvalidBinding error.TableFull))
 
 one_link : Determines link_says
 unfolding link_says
 one_link =
-    determined _ link_of link.Refused
-    (elim [ link.Success ↦ refl | link.InvalidBinding ↦ refl | link.TableFull ↦ refl | link.Refused why ↦ refused_back link.Refused why ])
-
--- the answer that says a record, or None
-abbrev endpoint_from : Option EndpointDescriptor → Option EndpointDescriptor
-endpoint_from (Some e) = Some e
-endpoint_from None = None
-
-endpoint_back : (r : Option EndpointDescriptor) → endpoint_from (endpoint_says r) ≡ r
-unfolding endpoint_says
-endpoint_back (Some e) = refl
-endpoint_back None = refl
-
--- the answer that says a revision, or None
-abbrev revision_from : Option ℕ → Option ℕ
-revision_from (Some n) = Some n
-revision_from None = None
-
-revision_back : (r : Option ℕ) → revision_from (revision_says r) ≡ r
-unfolding revision_says
-revision_back (Some n) = refl
-revision_back None = refl
+    determined _ link_of (λ why. Err (error.Refused why))
+    (elim
+    [ Ok tt ↦ refl
+    | Err error.InvalidBinding ↦ refl
+    | Err error.TableFull ↦ refl
+    | Err (error.Refused why) ↦ refused_back (λ why. Err (error.Refused why)) why
+    ])
 
 one_matching : Determines matching_says
 unfolding matching_says
@@ -66,44 +51,20 @@ response_of (leaving q) = response.Leave q
 one_response : Determines response_says
 unfolding response_says
 one_response =
-    determined _ response_of response.Refused
-    (elim [ response.Reply cluster n ↦ refl | response.Leave q ↦ refl | response.Refused why ↦ refused_back response.Refused why ])
+    determined _ (λ told. Ok (response_of told)) Err
+    (elim [ Ok (response.Reply cluster n) ↦ refl | Ok (response.Leave q) ↦ refl | Err why ↦ refused_back Err why ])
 
 pub one_said : OneSaid
 one_said A B says determines o r s p q = determines r s (p ∙ sym q)
 
 pub one_answer : OneAnswer
-unfolding says
 one_answer =
     record {
-      written = one_written;
-      lists = determined _ Ok Err (elim [ Ok l ↦ refl | Err why ↦ refused_back Err why ]);
-      node = determined _ Ok Err (elim [ Ok d ↦ refl | Err why ↦ refused_back Err why ]);
-      power = determined _ Ok Err (elim [ Ok d ↦ refl | Err why ↦ refused_back Err why ]);
-      simple = determined _ Ok Err (elim [ Ok d ↦ refl | Err why ↦ refused_back Err why ]);
+      answers = one_says;
       links = one_link;
-      nwk_addr = determined _ Ok Err (elim [ Ok q ↦ refl | Err why ↦ refused_back Err why ]);
-      ieee_addr = determined _ Ok Err (elim [ Ok q ↦ refl | Err why ↦ refused_back Err why ]);
-      interest = determined _ Ok Err (elim [ Ok q ↦ refl | Err why ↦ refused_back Err why ]);
-      address = determined _ Ok Err (elim [ Ok a ↦ refl | Err why ↦ refused_back Err why ]);
-      simple_req = determined _ Ok Err (elim [ Ok q ↦ refl | Err why ↦ refused_back Err why ]);
-      match_req = determined _ Ok Err (elim [ Ok q ↦ refl | Err why ↦ refused_back Err why ]);
-      bind_req = determined _ Ok Err (elim [ Ok q ↦ refl | Err why ↦ refused_back Err why ]);
-      leave_req = determined _ Ok Err (elim [ Ok q ↦ refl | Err why ↦ refused_back Err why ]);
-      header_reply = determined _ Ok Err (elim [ Ok r ↦ refl | Err why ↦ refused_back Err why ]);
-      mask_reply = determined _ Ok Err (elim [ Ok r ↦ refl | Err why ↦ refused_back Err why ]);
-      revision = λ a b e. sym (revision_back a) ∙ ap revision_from e ∙ revision_back b;
-      node_reply = determined _ Ok Err (elim [ Ok r ↦ refl | Err why ↦ refused_back Err why ]);
-      power_reply = determined _ Ok Err (elim [ Ok r ↦ refl | Err why ↦ refused_back Err why ]);
-      addr_reply = determined _ Ok Err (elim [ Ok r ↦ refl | Err why ↦ refused_back Err why ]);
-      status_reply = determined _ Ok Err (elim [ Ok r ↦ refl | Err why ↦ refused_back Err why ]);
-      list_reply = determined _ Ok Err (elim [ Ok r ↦ refl | Err why ↦ refused_back Err why ]);
-      match_reply = determined _ Ok Err (elim [ Ok r ↦ refl | Err why ↦ refused_back Err why ]);
-      simple_reply = determined _ Ok Err (elim [ Ok r ↦ refl | Err why ↦ refused_back Err why ]);
-      endpoint = λ a b e. sym (endpoint_back a) ∙ ap endpoint_from e ∙ endpoint_back b;
       matching = one_matching;
       response = one_response;
-      writer = λ o before r s after later p q. let (told, left) = one_wrote o before _ _ after later p q in (one_written r s told, left);
+      writer = λ o before r s after later p q. let (told, left) = one_wrote o before _ _ after later p q in (one_says ℕ r s told, left);
       linker =
           λ o t r s p q.
           let told = one_link r.status s.status (p.said ∙ sym q.said) in

@@ -108,13 +108,13 @@ record_shown r =
 abbrev pub crowd : ℕ → ℕ → DeviceDescriptorConfig
 crowd inputs n = device_of (replicate 31 endpoint1 ++ endpoint_at 9 4 inputs 1 0 ∷ []) n
 
--- what an answer says; the last of 32 records, with a count of 32, of 33, of the largest number, and of 31; another number with a
+-- a record and none; the last of 32 records, with a count of 32, of 33, of the largest number, and of 31; another number with a
 -- count of 33, and one that no record has; the first of two records; one behind the count
 unfoldable pub Records : Case
 Records =
     record {
       says =
-          map (λ r. record_shown (endpoint_says r)) (Some endpoint1 ∷ None ∷ [])
+          map record_shown (Some endpoint1 ∷ None ∷ [])
           ++ record_shown (endpoint_record (crowd 0 32) 9)
           ∷ record_shown (endpoint_record (crowd 0 33) 9)
           ∷ record_shown (endpoint_record (crowd 0 0xFFFF_FFFF_FFFF_FFFF) 9)

@@ -1,15 +1,16 @@
--- An enum that holds an answer or a refusal is determined by what it says, as a statement: a contract about what it says leaves one
--- answer. A term of it stands in proofs/.
+-- What an answer or a refusal says determines it, as a statement: a contract about what it says leaves one answer. A term of it stands in
+-- proofs/.
 use Rattle.std.specs.Prelude.{ℕ, ◌≡◌, List, Result}
-use Rattle.zigbee_types.specs.declared.Refusal.{Refusal}
 use Rattle.zigbee_types.specs.Outcome.{Outcome, Wrote, Begun}
 use Rattle.zigbee_types.specs.Answers.{says}
+use Rattle.zigbee_types.specs.declared.Refusal.{Refusal}
 use Rattle.aps_binding_table.specs.Answers.{link_says}
 use Rattle.aps_binding_table.specs.Held.{Step}
 use Rattle.aps_binding_table.specs.Table.{Leaves}
 use Rattle.aps_binding_table.specs.declared.binding.BindingTable.{BindingTable}
 use Rattle.aps_binding_table.specs.declared.binding.Linked.{Linked}
 use Rattle.zdo_matching.specs.Answers.{matching_says}
+use Rattle.zdo_matching.specs.declared.descriptor.Matched.{Matched}
 use Rattle.zdo_dispatcher.specs.Answers.{Answer, response_says, Dispatched}
 use Rattle.zdo_dispatcher.specs.declared.dispatcher.Responded.{Responded}
 
@@ -21,35 +22,13 @@ Determines {A} says = (a b : A) → says a ≡ says b → a ≡ b
 abbrev pub OneSaid : Type 1
 OneSaid = (A B : Type 0) (says : A → B) → Determines says → (o : B) (r s : A) → says r ≡ o → says s ≡ o → r ≡ s
 
--- Each enum by which a public function answers or refuses, or that holds a record or a number or none, is determined by what it says.
--- (That of a read line is in `OneLineRead`.) A writer's contract determines its answer and the buffer, and so does matching's; that of a
--- bind or an unbind its answer and its table; and the dispatcher's all three.
-pub record OneAnswer : Type 0 where
-  pub written : Determines says
-  pub lists : Determines says
-  pub node : Determines says
-  pub power : Determines says
-  pub simple : Determines says
+-- What a public function answers or refuses is determined by what it says, whatever it answers with: a place, a descriptor, a request, a
+-- reply; and so it is for a bind or an unbind, for matching, and for the dispatcher, which say it in their own words. (That of a read line
+-- is in `OneLineRead`.) A writer's contract determines its answer and the buffer, and so does matching's; that of a bind or an unbind its
+-- answer and its table; and the dispatcher's all three.
+pub record OneAnswer : Type 1 where
+  pub answers : (A : Type 0) → Determines (says {A = A})
   pub links : Determines link_says
-  pub nwk_addr : Determines says
-  pub ieee_addr : Determines says
-  pub interest : Determines says
-  pub address : Determines says
-  pub simple_req : Determines says
-  pub match_req : Determines says
-  pub bind_req : Determines says
-  pub leave_req : Determines says
-  pub header_reply : Determines says
-  pub mask_reply : Determines says
-  pub revision : Determines revision_says
-  pub node_reply : Determines says
-  pub power_reply : Determines says
-  pub addr_reply : Determines says
-  pub status_reply : Determines says
-  pub list_reply : Determines says
-  pub match_reply : Determines says
-  pub simple_reply : Determines says
-  pub endpoint : Determines endpoint_says
   pub matching : Determines matching_says
   pub response : Determines response_says
   pub writer :

@@ -1,4 +1,3 @@
-pub mod Read
 pub mod Handled
 pub mod Places
 pub mod ByCluster

@@ -23,7 +23,11 @@ use zdo_match_req::descriptor::parse_match_desc_req;
 use zdo_match_rsp::descriptor::{match_desc_rsp, match_desc_rsp_error};
 use zdo_matching::descriptor::matching_endpoints_checked;
 use zdo_replies::descriptor::DiscoveryError;
-use zdo_requests::descriptor::{ACTIVE_EP_REQ, ADDR_REQUEST_EXTENDED, ADDR_REQUEST_SINGLE, IEEE_ADDR_REQ, MATCH_DESC_REQ, MatchDescReq, NODE_DESC_REQ, NWK_ADDR_REQ, POWER_DESC_REQ, SIMPLE_DESC_REQ, parse_addr_of_interest_req, parse_ieee_addr_req, parse_nwk_addr_req, parse_simple_desc_req};
+use zdo_requests::descriptor::{
+    ACTIVE_EP_REQ, ADDR_REQUEST_EXTENDED, ADDR_REQUEST_SINGLE, IEEE_ADDR_REQ, MATCH_DESC_REQ,
+    MatchDescReq, NODE_DESC_REQ, NWK_ADDR_REQ, POWER_DESC_REQ, SIMPLE_DESC_REQ,
+    parse_addr_of_interest_req, parse_ieee_addr_req, parse_nwk_addr_req, parse_simple_desc_req,
+};
 use zigbee_types::{IeeeAddress, Refusal, ShortAddress};
 
 // The most endpoints that can match: as many as there are records (document 01, "Device tables and sizes").
@@ -65,12 +69,12 @@ fn on_nwk_addr(
     ensures { Wrote (and_then (nwk_addr_req_in payload.now) (on_nwk_addr ieee_addr nwk_addr)) out.old (says result) out.new }
 {
     let request = parse_nwk_addr_req(payload)?;
-        let asked = request.ieee_addr;
-        if asked.0 == ieee_addr.0 {
-            return our_address(ieee_addr, nwk_addr, request.seq, request.request_type, out);
-        }
-        let error = DiscoveryError::DeviceNotFound;
-        addr_rsp_error(request.seq, error, asked, ShortAddress(0xFFFF), out)
+    let asked = request.ieee_addr;
+    if asked.0 == ieee_addr.0 {
+        return our_address(ieee_addr, nwk_addr, request.seq, request.request_type, out);
+    }
+    let error = DiscoveryError::DeviceNotFound;
+    addr_rsp_error(request.seq, error, asked, ShortAddress(0xFFFF), out)
 }
 
 // Replies to an IEEE_addr_req (2.4.3.1.2). One about another device is told the same.
@@ -83,13 +87,13 @@ fn on_ieee_addr(
     ensures { Wrote (and_then (ieee_addr_req_in payload.now) (on_ieee_addr ieee_addr nwk_addr)) out.old (says result) out.new }
 {
     let request = parse_ieee_addr_req(payload)?;
-        let asked = request.nwk_addr_of_interest;
-        if asked.0 == nwk_addr.0 {
-            return our_address(ieee_addr, nwk_addr, request.seq, request.request_type, out);
-        }
-        let error = DiscoveryError::DeviceNotFound;
-        let unknown = IeeeAddress(0xFFFF_FFFF_FFFF_FFFF);
-        addr_rsp_error(request.seq, error, unknown, asked, out)
+    let asked = request.nwk_addr_of_interest;
+    if asked.0 == nwk_addr.0 {
+        return our_address(ieee_addr, nwk_addr, request.seq, request.request_type, out);
+    }
+    let error = DiscoveryError::DeviceNotFound;
+    let unknown = IeeeAddress(0xFFFF_FFFF_FFFF_FFFF);
+    addr_rsp_error(request.seq, error, unknown, asked, out)
 }
 
 // ---- descriptors and lists
@@ -117,11 +121,11 @@ fn on_node(
     ensures { Wrote (and_then (addr_of_interest_req_in payload.now) (on_node node nwk_addr)) out.old (says result) out.new }
 {
     let request = parse_addr_of_interest_req(payload)?;
-        let asked = request.nwk_addr_of_interest;
-        if asked.0 == nwk_addr.0 {
-            return node_desc_rsp(node, request.seq, asked, out);
-        }
-        descriptor_rsp_error(request.seq, not_ours(node), asked, out)
+    let asked = request.nwk_addr_of_interest;
+    if asked.0 == nwk_addr.0 {
+        return node_desc_rsp(node, request.seq, asked, out);
+    }
+    descriptor_rsp_error(request.seq, not_ours(node), asked, out)
 }
 
 // Replies to a Power_Desc_req (2.4.3.1.4).
@@ -135,11 +139,11 @@ fn on_power(
     ensures { Wrote (and_then (addr_of_interest_req_in payload.now) (on_power node.logical_type power nwk_addr)) out.old (says result) out.new }
 {
     let request = parse_addr_of_interest_req(payload)?;
-        let asked = request.nwk_addr_of_interest;
-        if asked.0 == nwk_addr.0 {
-            return power_desc_rsp(power, request.seq, asked, out);
-        }
-        descriptor_rsp_error(request.seq, not_ours(node), asked, out)
+    let asked = request.nwk_addr_of_interest;
+    if asked.0 == nwk_addr.0 {
+        return power_desc_rsp(power, request.seq, asked, out);
+    }
+    descriptor_rsp_error(request.seq, not_ours(node), asked, out)
 }
 
 // Replies to a Simple_Desc_req (2.4.3.1.5), of tables that were checked.
@@ -155,19 +159,19 @@ fn on_simple<'a>(
     ensures { Wrote (and_then (simple_desc_req_in payload.now) (on_simple (pools inputs.now outputs.now) device nwk_addr)) out.old (says result) out.new }
 {
     let request = parse_simple_desc_req(payload)?;
-        let asked = request.nwk_addr_of_interest;
-        if asked.0 == nwk_addr.0 {
-            return simple_desc_rsp_checked(
-                device,
-                request.seq,
-                asked,
-                request.endpoint,
-                inputs,
-                outputs,
-                out,
-            );
-        }
-        simple_desc_rsp_error(request.seq, not_ours(device.node), asked, out)
+    let asked = request.nwk_addr_of_interest;
+    if asked.0 == nwk_addr.0 {
+        return simple_desc_rsp_checked(
+            device,
+            request.seq,
+            asked,
+            request.endpoint,
+            inputs,
+            outputs,
+            out,
+        );
+    }
+    simple_desc_rsp_error(request.seq, not_ours(device.node), asked, out)
 }
 
 // Replies to an Active_EP_req (2.4.3.1.6), of a device whose count of records was checked.
@@ -181,11 +185,11 @@ fn on_active(
     ensures { Wrote (and_then (addr_of_interest_req_in payload.now) (on_active device nwk_addr)) out.old (says result) out.new }
 {
     let request = parse_addr_of_interest_req(payload)?;
-        let asked = request.nwk_addr_of_interest;
-        if asked.0 == nwk_addr.0 {
-            return active_ep_rsp(device, request.seq, asked, out);
-        }
-        active_ep_rsp_error(request.seq, not_ours(device.node), asked, out)
+    let asked = request.nwk_addr_of_interest;
+    if asked.0 == nwk_addr.0 {
+        return active_ep_rsp(device, request.seq, asked, out);
+    }
+    active_ep_rsp_error(request.seq, not_ours(device.node), asked, out)
 }
 
 // Builds the Match_Desc_rsp to a request about us: the list is made in places of its own, of which there are enough, so it is
@@ -229,10 +233,10 @@ fn on_match<'a>(
     ensures { Wrote (and_then (match_desc_req_in payload.now) (on_match device.node.logical_type (resolved_in (pools inputs.now outputs.now) (used device)) nwk_addr payload.now)) out.old (says result) out.new }
 {
     let request = parse_match_desc_req(payload)?;
-        if request.nwk_addr_of_interest.0 == nwk_addr.0 {
-            return matched_rsp(device, inputs, outputs, request, payload, out);
-        }
-        match_desc_rsp_error(request.seq, not_ours(device.node), out)
+    if request.nwk_addr_of_interest.0 == nwk_addr.0 {
+        return matched_rsp(device, inputs, outputs, request, payload, out);
+    }
+    match_desc_rsp_error(request.seq, not_ours(device.node), out)
 }
 
 // ---- by the cluster

@@ -1,5 +1,5 @@
 -- Bind and unbind: whether the source is ours, and what the table then does. Assumes nothing.
-use Rattle.std.specs.Prelude.{Err}
+use Rattle.std.specs.Prelude.{Result, Ok, Err}
 use Prim.Native.Nat.{ℕ, ◌≤◌, ◌<◌}
 use mathlib.Core.Path.{◌≡◌, refl, ◌∙◌}
 use mathlib.Core.Bool.{Bool, true, false, not}
@@ -22,8 +22,8 @@ use Rattle.aps_binding_table.specs.Answers.{link_says}
 use Rattle.aps_binding_table.specs.Held.{Step}
 use Rattle.aps_binding_table.specs.Table.{good_table, held, placed, on_good, create_binding_link, remove_binding_link, table_left, Leaves}
 use Rattle.aps_binding_table.specs.declared.binding.BindingTable.{BindingTable}
-use Rattle.aps_binding_table.specs.declared.binding.LinkStatus.{LinkStatus}
-use Rattle.aps_binding_table.specs.declared.binding.LinkStatus.TheVariants as link
+use Rattle.aps_binding_table.specs.declared.binding.BindingError.{BindingError}
+use Rattle.aps_binding_table.specs.declared.binding.BindingError.TheVariants as error
 use Rattle.aps_binding_table.proofs.Good.{good_table_lem, count_inside}
 use Rattle.aps_binding_table.proofs.Places.{held_stays}
 use Rattle.zdo_requests.specs.Clusters.{reply_cluster}
@@ -67,22 +67,22 @@ module _ (l : Link) (t : BindingTable) (b : Binding) {u : BindingTable} {told : 
 
 -- ---- the status that is told
 
-module _ (seq : ℕ) (s : LinkStatus) {before after : List ℕ} {told : Outcome ℕ} where
-  pub tells_success : s ≡ link.Success → Wrote (status_rsp seq SUCCESS) before told after → Wrote (and_then (link_says s) (status_rsp seq)) before told after
+module _ (seq : ℕ) (s : Result Unit BindingError) {before after : List ℕ} {told : Outcome ℕ} where
+  pub tells_success : s ≡ Ok tt → Wrote (status_rsp seq SUCCESS) before told after → Wrote (and_then (link_says s) (status_rsp seq)) before told after
   unfolding link_says and_then
   tells_success e w = rw e w
 
-  pub tells_none : s ≡ link.InvalidBinding → Wrote (status_rsp seq NO_ENTRY) before told after → Wrote (and_then (link_says s) (status_rsp seq)) before told after
+  pub tells_none : s ≡ Err error.InvalidBinding → Wrote (status_rsp seq NO_ENTRY) before told after → Wrote (and_then (link_says s) (status_rsp seq)) before told after
   unfolding link_says and_then
   tells_none e w = rw e w
 
-  pub tells_full : s ≡ link.TableFull → Wrote (status_rsp seq TABLE_FULL) before told after → Wrote (and_then (link_says s) (status_rsp seq)) before told after
+  pub tells_full : s ≡ Err error.TableFull → Wrote (status_rsp seq TABLE_FULL) before told after → Wrote (and_then (link_says s) (status_rsp seq)) before told after
   unfolding link_says and_then
   tells_full e w = rw e w
 
 pub tells_refused :
-    (seq : ℕ) (s : LinkStatus) (why : Refusal) (before : List ℕ)
-    → s ≡ link.Refused why
+    (seq : ℕ) (s : Result Unit BindingError) (why : Refusal) (before : List ℕ)
+    → s ≡ Err (error.Refused why)
     → Wrote (and_then (link_says s) (status_rsp seq)) before (says (Err why)) before
 unfolding link_says and_then says
 tells_refused seq s why before e = rw e (wrote_refused (refusal_number why) before)
@@ -108,7 +108,7 @@ module _ (l : Link) (source : ℕ) (t : BindingTable) (q : BindReq) (cluster : �
   -- too short a buffer: nothing is stored
   pub link_full :
       length out < 2
-      → Dispatched (link_answer l source t q cluster (length out)) t out (response_says (response.Refused ShortBuffer)) t out
+      → Dispatched (link_answer l source t q cluster (length out)) t out (response_says (Err ShortBuffer)) t out
   unfolding link_answer status_rsp fitted mapped response_says
   link_full h =
       let step = link_step source (held t) (step_of l t (binding_of q)) in

@@ -1,5 +1,6 @@
 -- Any request: tables that are not good, and then by the cluster. Assumes nothing.
 use Rattle.std.specs.Prelude.{Result, Ok, Err}
+use Rattle.std.specs.Result.{IsErr, IsErrAnd}
 use Prim.Native.Nat.{ℕ, ◌^◌, ◌<◌}
 use native.Mathlib.Omega.{arith}
 use mathlib.Core.Path.{◌≡◌, refl, sym, ◌∙◌}
@@ -15,6 +16,7 @@ use Rattle.zigbee_types.specs.declared.Refusal.{Refusal}
 use Rattle.zigbee_types.specs.declared.Refusal.TheVariants.{BadTables}
 use Rattle.zigbee_types.proofs.Named.{Unnamed}
 use Rattle.zigbee_types.proofs.Outcomes.{wrote_answer}
+use Rattle.zigbee_types.proofs.Passed.{passed}
 use Rattle.zigbee_types.proofs.Scans.{said_no, said_yes}
 use Rattle.aps_binding_table.specs.Table.{good_sizes, good_table}
 use Rattle.aps_binding_table.specs.declared.binding.BindingTable.{BindingTable}
@@ -30,6 +32,7 @@ use Rattle.zdo_discovery.proofs.ByCluster.{answered_low}
 use Rattle.zdo_dispatcher.specs.Answers.{reply, leave, Told, replied, leaving, told_of, table_after, buffer_after, response_says, source_status, link_answer, on_link, by_cluster, answered, Dispatched}
 use Rattle.zdo_dispatcher.specs.declared.dispatcher.Link.{Link}
 use Rattle.zdo_dispatcher.specs.declared.dispatcher.Link.TheVariants.{Bind, Unbind}
+use Rattle.zdo_dispatcher.specs.declared.dispatcher.Response.{Response}
 use Rattle.zdo_dispatcher.specs.declared.dispatcher.Response.TheVariants as response
 use Rattle.zdo_dispatcher.proofs.Told.{dispatched_refused, dispatched_reply, kept}
 
@@ -50,16 +53,19 @@ module _ (payload : List ℕ) where
     unfolding says and_then
     link_unread is = rw (← said, is)
 
-  module _ {r : Result MgmtLeaveReq Refusal} (said : says r ≡ mgmt_leave_req_in payload) where
-    -- a leave request
-    pub leave_read : {q : MgmtLeaveReq} → r ≡ Ok q → response_says (response.Leave q) ≡ mapped leaving (mgmt_leave_req_in payload)
-    unfolding says mapped response_says
-    leave_read is = rw (← said, is)
+  -- a leave request
+  pub leave_read : {q : MgmtLeaveReq} → says (Ok q) ≡ mgmt_leave_req_in payload → response_says (Ok (response.Leave q)) ≡ mapped leaving (mgmt_leave_req_in payload)
+  unfolding says mapped response_says
+  leave_read said = rw (← said)
 
-    -- none
-    pub leave_unread : {why : Refusal} → r ≡ Err why → response_says (response.Refused why) ≡ mapped leaving (mgmt_leave_req_in payload)
-    unfolding says mapped response_says
-    leave_unread is = rw (← said, is)
+  -- none
+  pub leave_unread :
+      {why : Refusal} (r : Result Response Refusal)
+      → says {A = MgmtLeaveReq} (Err why) ≡ mgmt_leave_req_in payload
+      → IsErr r × IsErrAnd r (λ e. e ≡ why)
+      → response_says r ≡ mapped leaving (mgmt_leave_req_in payload)
+  unfolding says mapped response_says
+  leave_unread {why} r said p = rw (← said, passed r why p)
 
 -- ---- what is left
 
@@ -77,7 +83,7 @@ pub bad_tables_lem :
     → x ≡ good_device h.pools h.device
     → y ≡ good_sizes t.count t.limit
     → not (x && y) ≡ true
-    → Dispatched (answered h t (asking cluster payload out)) t out (response_says (response.Refused BadTables)) t out
+    → Dispatched (answered h t (asking cluster payload out)) t out (response_says (Err BadTables)) t out
 unfolding answered good_host good_table response_says
 bad_tables_lem h t cluster payload out {x} {y} device table bad =
     let both : (x && y) ≡ (good_device h.pools h.device && good_sizes t.count t.limit) = rw (device, table) in

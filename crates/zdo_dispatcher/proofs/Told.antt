@@ -1,5 +1,6 @@
 -- What is told of a reply that a writer came to, and what a refusal leaves. Assumes nothing.
 use Rattle.std.specs.Prelude.{Result, Ok, Err}
+use Rattle.std.specs.Result.{IsErr, IsErrAnd}
 use Prim.Native.Nat.{ℕ, ◌+◌, ◌^◌, ◌<◌}
 use native.Mathlib.Omega.{arith}
 use mathlib.Core.Path.{◌≡◌, refl}
@@ -10,9 +11,11 @@ use mir.Val.{Fits}
 use Rattle.zigbee_types.specs.Outcome.{Outcome, answer, refusal, mapped, fitted, written, Wrote}
 use Rattle.zigbee_types.specs.Answers.{says}
 use Rattle.zigbee_types.specs.declared.Refusal.{Refusal}
+use Rattle.zigbee_types.proofs.Passed.{passed}
 use Rattle.aps_binding_table.specs.declared.binding.BindingTable.{BindingTable}
 use Rattle.zdo_requests.specs.Clusters.{reply_cluster}
 use Rattle.zdo_dispatcher.specs.Answers.{reply, Told, replied, told_of, table_after, buffer_after, response_says, Dispatched}
+use Rattle.zdo_dispatcher.specs.declared.dispatcher.Response.{Response}
 use Rattle.zdo_dispatcher.specs.declared.dispatcher.Response.TheVariants as response
 
 -- ---- by the writer's answer
@@ -23,18 +26,22 @@ module _ (cluster : ℕ) (w : Result ℕ Refusal) where
   unfolding says
   cluster_fits {n} small e = let low = small n (rw e) in record { fits = omega arith }
 
-  pub told_length : {n : ℕ} → w ≡ Ok n → response_says (response.Reply (cluster + 0x8000) n) ≡ mapped (replied (reply_cluster cluster)) (says w)
+  pub told_length : {n : ℕ} → w ≡ Ok n → response_says (Ok (response.Reply (cluster + 0x8000) n)) ≡ mapped (replied (reply_cluster cluster)) (says w)
   unfolding says response_says mapped
   told_length e = rw e
 
-  pub told_refused : {why : Refusal} → w ≡ Err why → response_says (response.Refused why) ≡ mapped (replied (reply_cluster cluster)) (says w)
+  pub told_refused :
+      {why : Refusal} (r : Result Response Refusal)
+      → w ≡ Err why
+      → IsErr r × IsErrAnd r (λ e. e ≡ why)
+      → response_says r ≡ mapped (replied (reply_cluster cluster)) (says w)
   unfolding says response_says mapped
-  told_refused e = rw e
+  told_refused {why} r e p = rw (e, passed r why p)
 
 -- ---- what is left
 
 -- a refusal leaves table and buffer as they were
-pub dispatched_refused : (why : Refusal) (t : BindingTable) (before : List ℕ) (n : ℕ) → response_says (response.Refused why) ≡ refusal n → Dispatched (refusal n) t before (response_says (response.Refused why)) t before
+pub dispatched_refused : (why : Refusal) (t : BindingTable) (before : List ℕ) (n : ℕ) → response_says (Err why) ≡ refusal n → Dispatched (refusal n) t before (response_says (Err why)) t before
 unfolding table_after buffer_after mapped
 dispatched_refused why t before n e = record { said = e; table = refl; buffer = refl }
 

@@ -1,10 +1,11 @@
 -- The dispatcher: what any request comes to, and what is left of it (document 01, "Binding and dispatch").
-use Rattle.std.specs.Prelude.{ℕ, ◌≡◌, ◌&&◌, cond, List, eqb, length}
+use Rattle.std.specs.Prelude.{ℕ, ◌≡◌, ◌&&◌, cond, List, eqb, length, Result, Ok, Err}
 use Rattle.zigbee_types.specs.Outcome.{Outcome, answer, refusal, and_then, mapped, fitted, written}
 use Rattle.zigbee_types.specs.Addresses.{same_ieee}
 use Rattle.zigbee_types.specs.Refusals.{refusal_number}
 use Rattle.zigbee_types.specs.Statuses.{SUCCESS, INVALID_EP, NOT_SUPPORTED}
 use Rattle.zigbee_types.specs.declared.IeeeAddress.{IeeeAddress}
+use Rattle.zigbee_types.specs.declared.Refusal.{Refusal}
 use Rattle.aps_binding_table.specs.Held.{Step, bound, unbound}
 use Rattle.aps_binding_table.specs.Table.{good_table, held, placed}
 use Rattle.aps_binding.specs.declared.binding.Binding.{Binding}
@@ -93,10 +94,10 @@ told_of (reply cluster bytes u) = replied cluster (length bytes)
 told_of (leave q) = leaving q
 
 -- what the answer of `dispatch` says: a reply by its cluster and length, a leave by its request, and a refusal by its number
-unfoldable pub response_says : Response → Outcome Told
-response_says (response.Reply cluster n) = answer (replied cluster n)
-response_says (response.Leave q) = answer (leaving q)
-response_says (response.Refused why) = refusal (refusal_number why)
+unfoldable pub response_says : Result Response Refusal → Outcome Told
+response_says (Ok (response.Reply cluster n)) = answer (replied cluster n)
+response_says (Ok (response.Leave q)) = answer (leaving q)
+response_says (Err why) = refusal (refusal_number why)
 
 -- a call of the dispatcher that comes to o: what is told, the table after, and the buffer after
 pub record Dispatched (o : Outcome Answer) (t : BindingTable) (before : List ℕ) (told : Outcome Told) (u : BindingTable) (after : List ℕ) : Type 0 where

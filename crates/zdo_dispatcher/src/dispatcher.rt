@@ -17,7 +17,7 @@ ghost use Rattle.zdo_dispatcher.specs.Taken.{link_with, answered_with, TakenTo};
 
 use aps_binding::binding::Binding;
 use aps_binding_table::binding::{
-    BindingTable, LinkStatus, Linked, create_binding_link, good_sizes, remove_binding_link,
+    BindingError, BindingTable, Linked, create_binding_link, good_sizes, remove_binding_link,
 };
 use zdo_bind_req::descriptor::parse_bind_req;
 use zdo_device::descriptor::DeviceDescriptorConfig;
@@ -27,37 +27,33 @@ use zdo_replies::descriptor::{BindStatus, STATUS_SUCCESS, bind_rsp};
 use zdo_requests::descriptor::{BIND_REQ, BindReq, MGMT_LEAVE_REQ, MgmtLeaveReq, UNBIND_REQ};
 use zigbee_types::{IeeeAddress, Refusal, ShortAddress};
 
-// What a request came to: a reply that was written, by its cluster and length; a leave, which is handed to the host; or why it was
-// refused.
+// What a request came to: a reply that was written, by its cluster and length; or a leave, which is handed to the host.
 #[derive(Clone, Copy)]
 pub enum Response {
     Reply { cluster: u16, length: usize },
     Leave(MgmtLeaveReq),
-    Refused(Refusal),
 }
 
-// The binding table after a request, and what the request came to.
+// The binding table after a request, and what the request came to, or why it was refused.
 #[derive(Clone, Copy)]
 pub struct Responded {
     pub table: BindingTable,
-    pub response: Response,
+    pub response: Result<Response, Refusal>,
 }
 
 // A reply's cluster is the request's plus this (2.4.4).
 const REPLY: u16 = 0x8000;
 
 // What is told of a reply to a request that came to `written`.
-fn told(cluster: u16, written: Result<usize, Refusal>) -> Response
+fn told(cluster: u16, written: Result<usize, Refusal>) -> Result<Response, Refusal>
     requires { (n : ℕ) → says written ≡ answer n → cluster < 2 ^ 15 }
     ensures { response_says result ≡ mapped (replied (reply_cluster cluster)) (says written) }
 {
-    match written {
-        Ok(length) => Response::Reply {
-            cluster: cluster + REPLY,
-            length,
-        },
-        Err(why) => Response::Refused(why),
-    }
+    let length = written?;
+    Ok(Response::Reply {
+        cluster: cluster + REPLY,
+        length,
+    })
 }
 
 // ---- bind and unbind
@@ -97,14 +93,14 @@ fn bind_or_unbind(link: Link, table: BindingTable, binding: Binding) -> Linked
 }
 
 // Builds the reply that tells what a bind or an unbind came to.
-fn link_rsp(seq: u8, status: LinkStatus, out: &mut [u8]) -> Result<usize, Refusal>
+fn link_rsp(seq: u8, status: Result<(), BindingError>, out: &mut [u8]) -> Result<usize, Refusal>
     ensures { Wrote (and_then (link_says status) (status_rsp seq)) out.old (says result) out.new }
 {
     match status {
-        LinkStatus::Success => bind_rsp(seq, BindStatus::Success, out),
-        LinkStatus::InvalidBinding => bind_rsp(seq, BindStatus::NoEntry, out),
-        LinkStatus::TableFull => bind_rsp(seq, BindStatus::TableFull, out),
-        LinkStatus::Refused(why) => Err(why),
+        Ok(()) => bind_rsp(seq, BindStatus::Success, out),
+        Err(BindingError::InvalidBinding) => bind_rsp(seq, BindStatus::NoEntry, out),
+        Err(BindingError::TableFull) => bind_rsp(seq, BindStatus::TableFull, out),
+        Err(BindingError::Refused(why)) => Err(why),
     }
 }
 
@@ -124,25 +120,20 @@ fn take_link(
     cluster: u16,
     payload: &[u8],
     out: &mut [u8],
-) -> Taken
+) -> Result<Taken, Refusal>
     requires { cluster < 2 ^ 15 }
     ensures { TakenTo (link_with link device ieee_addr (asking cluster payload.now out.old)) cluster result out.old out.new }
 {
-    let read = parse_bind_req(payload);
-    match read {
-        Ok(request) => {
-            if out.len() < 2 {
-                return Taken::Answered(Response::Refused(Refusal::ShortBuffer));
-            }
-            let source = source_status(device, ieee_addr, request);
-            if source.code() != STATUS_SUCCESS {
-                let written = bind_rsp(request.seq, source, out);
-                return Taken::Answered(told(cluster, written));
-            }
-            Taken::Asks { link, request }
-        }
-        Err(why) => Taken::Answered(Response::Refused(why)),
+    let request = parse_bind_req(payload)?;
+    if out.len() < 2 {
+        return Err(Refusal::ShortBuffer);
     }
+    let source = source_status(device, ieee_addr, request);
+    if source.code() != STATUS_SUCCESS {
+        let response = told(cluster, bind_rsp(request.seq, source, out))?;
+        return Ok(Taken::Answered(response));
+    }
+    Ok(Taken::Asks { link, request })
 }
 
 // Binds or unbinds the entry of a request whose source is ours, and replies.
@@ -171,14 +162,11 @@ fn link_answer(
 // ---- leave
 
 // Answers a Mgmt_Leave_req (2.4.3.3.5): the request is handed to the host, and nothing is written.
-fn on_leave(payload: &[u8]) -> Response
+fn on_leave(payload: &[u8]) -> Result<Response, Refusal>
     ensures { response_says result ≡ mapped leaving (mgmt_leave_req_in payload.now) }
 {
-    let read = parse_mgmt_leave_req(payload);
-    match read {
-        Ok(request) => Response::Leave(request),
-        Err(why) => Response::Refused(why),
-    }
+    let request = parse_mgmt_leave_req(payload)?;
+    Ok(Response::Leave(request))
 }
 
 // ---- discovery
@@ -194,7 +182,7 @@ fn on_discovery<'a>(
     cluster: u16,
     payload: &[u8],
     out: &mut [u8],
-) -> Response
+) -> Result<Response, Refusal>
     requires { good_device (pools inputs.now outputs.now) device ≡ true }
     ensures { (t : BindingTable) → Dispatched (mapped (λ bytes. reply (reply_cluster cluster) bytes t) (discovered (host_with device ieee_addr nwk_addr (pools inputs.now outputs.now)) (asking cluster payload.now out.old))) t out.old (response_says result) t out.new }
 {
@@ -216,17 +204,23 @@ fn take<'a>(
     cluster: u16,
     payload: &[u8],
     out: &mut [u8],
-) -> Taken
+) -> Result<Taken, Refusal>
     requires { good_device (pools inputs.now outputs.now) device ≡ true }
     ensures { TakenTo (answered_with (host_with device ieee_addr nwk_addr (pools inputs.now outputs.now)) (asking cluster payload.now out.old)) cluster result out.old out.new }
 {
     match cluster {
         BIND_REQ => take_link(Link::Bind, device, ieee_addr, cluster, payload, out),
         UNBIND_REQ => take_link(Link::Unbind, device, ieee_addr, cluster, payload, out),
-        MGMT_LEAVE_REQ => Taken::Answered(on_leave(payload)),
-        _ => Taken::Answered(on_discovery(
-            device, ieee_addr, nwk_addr, inputs, outputs, cluster, payload, out,
-        )),
+        MGMT_LEAVE_REQ => {
+            let response = on_leave(payload)?;
+            Ok(Taken::Answered(response))
+        }
+        _ => {
+            let response = on_discovery(
+                device, ieee_addr, nwk_addr, inputs, outputs, cluster, payload, out,
+            )?;
+            Ok(Taken::Answered(response))
+        }
     }
 }
 
@@ -251,16 +245,23 @@ pub fn dispatch<'a>(
     if !good {
         return Responded {
             table,
-            response: Response::Refused(Refusal::BadTables),
+            response: Err(Refusal::BadTables),
         };
     }
     let taken = take(
         device, ieee_addr, nwk_addr, inputs, outputs, cluster, payload, out,
     );
     match taken {
-        Taken::Answered(response) => Responded { table, response },
-        Taken::Asks { link, request } => {
+        Ok(Taken::Answered(response)) => Responded {
+            table,
+            response: Ok(response),
+        },
+        Ok(Taken::Asks { link, request }) => {
             return link_answer(link, table, request, cluster, out);
         }
+        Err(why) => Responded {
+            table,
+            response: Err(why),
+        },
     }
 }

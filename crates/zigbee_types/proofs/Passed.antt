@@ -1,8 +1,9 @@
--- What a `?` hands on: the refusal that it met, whatever was to come after it. Assumes nothing.
+-- What a `?` comes to: the refusal that it met is handed on, whatever was to come after it; an answer is what comes after it goes by.
+-- Assumes nothing.
 use Prim.Native.Nat.{ℕ}
 use mathlib.Core.Path.{◌≡◌, refl}
 use mathlib.Core.List.{List}
-use Rattle.std.specs.Prelude.{Result, Err}
+use Rattle.std.specs.Prelude.{Result, Ok, Err}
 use Rattle.std.specs.Result.{IsErr, IsErrAnd}
 use Rattle.std.proofs.lemmas.Result.{err_from_is_err_and}
 use Rattle.zigbee_types.specs.Outcome.{Outcome, and_then, mapped, fitted, written, Wrote}
@@ -38,3 +39,12 @@ pub passed_wrote :
     → Wrote (and_then o next) before (says r) before
 unfolding says and_then mapped fitted written
 passed_wrote r why next before said p = rw (passed r why p, ← said) (record { said = refl; left = refl })
+
+-- and one that met an answer has written what comes after that
+pub went_on :
+    {A : Type 0} {o : Outcome A} {told : Outcome ℕ} (a : A) (next : A → Outcome (List ℕ)) (before after : List ℕ)
+    → says (Ok a) ≡ o
+    → Wrote (next a) before told after
+    → Wrote (and_then o next) before told after
+unfolding says and_then
+went_on a next before after said w = rw (← said) w

@@ -1,20 +1,20 @@
 -- `on_node` meets its contract, at each of its ways out. Assumes nothing.
 use borrow.Author.Rules.{rules}
 use Rattle.zdo_discovery.specs.Discovery.{on_node}
-use Rattle.zdo_discovery.proofs.Read.{interest_on, interest_stop}
+use Rattle.zigbee_types.proofs.Passed.{went_on, passed_wrote}
 use Rattle.zdo_discovery.proofs.Handled.{about_ours, about_other}
 use Rattle.zdo_discovery.proofs.discovery.on_node.Goals as goal
 
-ruleset laws = (rules, interest_on, interest_stop, about_ours, about_other)
+ruleset laws = (rules, went_on, passed_wrote, about_ours, about_other)
 
 pub returns-then-asked-nwk_addr : goal.returns-then-asked-nwk_addr
 unfolding on_node
 returns-then-asked-nwk_addr c = search laws
 
-pub returns-else-asked-nwk_addr : goal.returns-else-asked-nwk_addr
+pub returns : goal.returns
 unfolding on_node
-returns-else-asked-nwk_addr c = search laws
+returns c = search laws
 
-pub returns-in-Refused : goal.returns-in-Refused
+pub returns-in_err-request : goal.returns-in_err-request
 unfolding on_node
-returns-in-Refused c = search laws
+returns-in_err-request c = search laws

@@ -5,14 +5,14 @@ use Rattle.zdo_dispatcher.proofs.dispatcher.link_rsp.Goals as goal
 
 ruleset laws = (rules, tells_success, tells_none, tells_full, tells_refused)
 
-pub returns-in-Success : goal.returns-in-Success
-returns-in-Success c = search laws
+pub returns-in-Ok : goal.returns-in-Ok
+returns-in-Ok c = search laws
 
-pub returns-in-InvalidBinding : goal.returns-in-InvalidBinding
-returns-in-InvalidBinding c = search laws
+pub returns-in-Err-InvalidBinding : goal.returns-in-Err-InvalidBinding
+returns-in-Err-InvalidBinding c = search laws
 
-pub returns-in-TableFull : goal.returns-in-TableFull
-returns-in-TableFull c = search laws
+pub returns-in-Err-TableFull : goal.returns-in-Err-TableFull
+returns-in-Err-TableFull c = search laws
 
-pub returns-in-Refused : goal.returns-in-Refused
-returns-in-Refused c = search laws
+pub returns-in-Err-Refused : goal.returns-in-Err-Refused
+returns-in-Err-Refused c = search laws

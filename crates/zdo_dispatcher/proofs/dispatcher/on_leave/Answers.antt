@@ -5,8 +5,8 @@ use Rattle.zdo_dispatcher.proofs.dispatcher.on_leave.Goals as goal
 
 ruleset laws = (rules, leave_read, leave_unread)
 
-pub returns-in-Request : goal.returns-in-Request
-returns-in-Request c = search laws
+pub returns-in_err-request : goal.returns-in_err-request
+returns-in_err-request c = search laws
 
-pub returns-in-Refused : goal.returns-in-Refused
-returns-in-Refused c = search laws
+pub returns : goal.returns
+returns c = search laws

@@ -3,13 +3,13 @@ use borrow.Author.Rules.{rules}
 use Rattle.zdo_dispatcher.proofs.Told.{cluster_fits, told_length, told_refused}
 use Rattle.zdo_dispatcher.proofs.dispatcher.told.Goals as goal
 
-ruleset laws = (rules, cluster_fits)
+ruleset laws = (rules, cluster_fits, told_length, told_refused)
 
 pub overflow_add-result : goal.overflow_add-result
 overflow_add-result c = search laws
 
-pub returns-in-Length : goal.returns-in-Length
-returns-in-Length c = told_length _ _ (search rules)
+pub returns-in_err-length : goal.returns-in_err-length
+returns-in_err-length c = search laws
 
-pub returns-in-Refused : goal.returns-in-Refused
-returns-in-Refused c = told_refused _ _ (search rules)
+pub returns : goal.returns
+returns c = search laws
