@@ -202,5 +202,5 @@ fn equal(rt: &impl Print) -> io::Result<()> {
 
 // Whether A equals this entry.
 fn print_equal(rt: &impl Print, other: Binding) -> io::Result<()> {
-    print!(rt; " {}", entry(b'A').eq(other) as u8)
+    print!(rt; " {}", (entry(b'A') == other) as u8)
 }
