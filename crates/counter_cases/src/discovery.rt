@@ -2,8 +2,9 @@
 // about another device. The lines are those of the module `dispatcher`.
 ghost use Rattle.std.specs.Prelude.{◌≤◌};
 
+use crate::bindings;
+use crate::device::{self, Tables};
 use crate::dispatcher::{ask, print_ieee, print_link, print_told};
-use crate::{bindings, device};
 use node_descriptor::LogicalType;
 use std::io;
 
@@ -95,8 +96,10 @@ pub(crate) fn about_another(rt: &impl Print) -> io::Result<()> {
 
 // Lines for the five requests, where we have this type.
 fn by_type(rt: &impl Print, name: &str, logical_type: LogicalType) -> io::Result<()> {
-    let mut tables = device::ours(2);
-    tables.device.node.logical_type = logical_type;
+    let ours = device::ours(2);
+    let mut device = ours.device;
+    device.node.logical_type = logical_type;
+    let tables = Tables { device, ..ours };
     print_told(rt, tables, ask(name, 0x0002, b"\x07\x78\x56", 6))?;
     print_told(rt, tables, ask(name, 0x0003, b"\x07\x78\x56", 6))?;
     print_told(rt, tables, ask(name, 0x0004, b"\x07\x78\x56\x01", 6))?;

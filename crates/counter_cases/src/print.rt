@@ -1,5 +1,5 @@
 // Printing, to the standard output.
-ghost use Rattle.std.specs.Prelude.{◌≤◌};
+ghost use Rattle.std.specs.Prelude.{◌≤◌, length};
 
 use std::{fmt, io};
 use zigbee_types::Refusal;
@@ -117,4 +117,34 @@ pub(crate) fn in_three_rooms<F: Fn(&mut [u8]) -> Result<usize, Refusal>>(
     in_room(rt, name, length + 2, &write)?;
     in_room(rt, name, length, &write)?;
     in_room(rt, name, length - 1, &write)
+}
+
+// A line with a name, how many bytes there are, and what a reader prints of them.
+pub(crate) fn of_bytes<P: Print, F: Fn(&P, &[u8]) -> io::Result<()>>(
+    rt: &P,
+    name: &str,
+    print: F,
+    bytes: &[u8],
+) -> io::Result<()>
+    requires { F.IsAlwaysCallable print }
+{
+    print!(rt; "{name} length {}", bytes.len())?;
+    print(rt, bytes)?;
+    println!(rt)
+}
+
+// Lines for all bytes, for so many of them, and for one less.
+pub(crate) fn of_three_lengths<P: Print, F: Fn(&P, &[u8]) -> io::Result<()>>(
+    rt: &P,
+    name: &str,
+    print: F,
+    bytes: &[u8],
+    shortest: usize,
+) -> io::Result<()>
+    requires callable { F.IsAlwaysCallable print }
+    requires within { (1 ≤ shortest) × (shortest ≤ length bytes.now) }
+{
+    of_bytes(rt, name, &print, bytes)?;
+    of_bytes(rt, name, &print, &bytes[..shortest])?;
+    of_bytes(rt, name, &print, &bytes[..shortest - 1])
 }

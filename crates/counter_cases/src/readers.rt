@@ -49,8 +49,8 @@ pub(crate) fn k2_node(rt: &impl Print) -> io::Result<()> {
 pub(crate) fn k4(rt: &impl Print) -> io::Result<()> {
     println!(rt; "K4 power replies")?;
     three_lengths(rt, print_power, b"\x07\x00\x34\x12\x42\x84\xEE", 6)?;
-    print_reply(rt, print_power, b"\x07\x00\x34\x12\x22\x84")?;
-    print_reply(rt, print_power, b"\x07\x00\x34\x12\x32\x83")?;
+    print::of_bytes(rt, " ", print_power, b"\x07\x00\x34\x12\x22\x84")?;
+    print::of_bytes(rt, " ", print_power, b"\x07\x00\x34\x12\x32\x83")?;
     three_lengths(rt, print_power, b"\x1C\x80\x78\x56\x22\x84", 4)
 }
 
@@ -64,7 +64,7 @@ pub(crate) fn k5(rt: &impl Print) -> io::Result<()> {
         19,
     )?;
     three_lengths(rt, print_simple, b"\x07\x00\x34\x12\x00\xEE", 5)?;
-    print_reply(rt, print_simple, b"\x07\x83\x34\x12\x00")
+    print::of_bytes(rt, " ", print_simple, b"\x07\x83\x34\x12\x00")
 }
 
 // The other readers, and more of the simple replies.
@@ -87,8 +87,9 @@ fn simple_lengths(rt: &impl Print) -> io::Result<()> {
 
 // A line for a simple reply that ends with a descriptor of 8 bytes and says this length.
 fn simple_length(rt: &impl Print, length: u8) -> io::Result<()> {
-    print_reply(
+    print::of_bytes(
         rt,
+        " ",
         print_simple,
         &[
             0x07, 0x00, 0x34, 0x12, length, 0x01, 0x04, 0x01, 0x02, 0x03, 0x11, 0x00, 0x00,
@@ -108,7 +109,7 @@ fn active_lists(rt: &impl Print) -> io::Result<()> {
 fn matches(rt: &impl Print) -> io::Result<()> {
     println!(rt; "match replies")?;
     three_lengths(rt, print_match, b"\x17\x00\x34\x12\x02\x03\xF0\xEE", 7)?;
-    print_reply(rt, print_match, b"\x17\x00\x00")?;
+    print::of_bytes(rt, " ", print_match, b"\x17\x00\x00")?;
     three_lengths(rt, print_match, b"\x1F\x80\x05\x12\x02\x03\xF0", 3)
 }
 
@@ -143,24 +144,9 @@ fn three_lengths<P: Print, F: Fn(&P, &[u8]) -> io::Result<()>>(
     shortest: usize,
 ) -> io::Result<()>
     requires callable { F.IsAlwaysCallable print }
-    requires in_reply { (1 ≤ shortest) × (shortest ≤ length reply.now) }
+    requires within { (1 ≤ shortest) × (shortest ≤ length reply.now) }
 {
-    print_reply(rt, &print, reply)?;
-    print_reply(rt, &print, &reply[..shortest])?;
-    print_reply(rt, &print, &reply[..shortest - 1])
-}
-
-// A line for a reply, as a reader prints it.
-fn print_reply<P: Print, F: Fn(&P, &[u8]) -> io::Result<()>>(
-    rt: &P,
-    print: F,
-    reply: &[u8],
-) -> io::Result<()>
-    requires { F.IsAlwaysCallable print }
-{
-    print!(rt; "  length {}", reply.len())?;
-    print(rt, reply)?;
-    println!(rt)
+    print::of_three_lengths(rt, " ", print, reply, shortest)
 }
 
 // What the Rust's reader gives of a node reply: the header, the server mask and the stack revision.

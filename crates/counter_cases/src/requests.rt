@@ -49,7 +49,7 @@ pub(crate) fn k10(rt: &impl Print) -> io::Result<()> {
 // A line for the request to a device with another mode.
 fn bind_mode(rt: &impl Print, mode: u8) -> io::Result<()> {
     print!(rt; "bind mode {mode}")?;
-    print_request(
+    print::of_bytes(
         rt,
         "",
         print_bind,
@@ -81,19 +81,19 @@ pub(crate) fn leave(rt: &impl Print) -> io::Result<()> {
         print_leave,
         b"\x12\x00\x00\x00\x00\x00\x00\x00\x00\x40\xEE",
     )?;
-    print_request(
+    print::of_bytes(
         rt,
         "leave",
         print_leave,
         b"\x13\xF1\xF2\xF3\xF4\xF5\xF6\xF7\xF8\x80",
     )?;
-    print_request(
+    print::of_bytes(
         rt,
         "leave",
         print_leave,
         b"\x14\x00\x00\x00\x00\x00\x00\x00\x01\x7F",
     )?;
-    print_request(
+    print::of_bytes(
         rt,
         "leave",
         print_leave,
@@ -156,23 +156,7 @@ fn three_lengths<P: Print, F: Fn(&P, &[u8]) -> io::Result<()>>(
     requires callable { F.IsAlwaysCallable print }
     requires two_bytes { 2 ≤ length asdu.now }
 {
-    print_request(rt, name, &print, asdu)?;
-    print_request(rt, name, &print, &asdu[..asdu.len() - 1])?;
-    print_request(rt, name, &print, &asdu[..asdu.len() - 2])
-}
-
-// A line for a request, whose fields or refusal are printed so.
-fn print_request<P: Print, F: Fn(&P, &[u8]) -> io::Result<()>>(
-    rt: &P,
-    name: &str,
-    print: F,
-    asdu: &[u8],
-) -> io::Result<()>
-    requires { F.IsAlwaysCallable print }
-{
-    print!(rt; "{name} length {}", asdu.len())?;
-    print(rt, asdu)?;
-    println!(rt)
+    print::of_three_lengths(rt, name, print, asdu, asdu.len() - 1)
 }
 
 // The fields of a NWK_addr_req.
