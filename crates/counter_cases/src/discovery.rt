@@ -4,7 +4,7 @@ ghost use Rattle.std.specs.Prelude.{◌≤◌};
 
 use crate::bindings;
 use crate::device::{self, Tables};
-use crate::dispatcher::{ask, print_ieee, print_link, print_told};
+use crate::dispatcher::{ask, print_answer, print_ieee, print_link};
 use node_descriptor::LogicalType;
 use std::io;
 
@@ -29,8 +29,8 @@ fn two_rooms(
     requires { (1 ≤ reply) × (reply ≤ 36) }
 {
     let ours = device::ours(2);
-    print_told(rt, ours, ask(name, cluster, payload, reply + 1))?;
-    print_told(rt, ours, ask(name, cluster, payload, reply - 1))
+    print_answer(rt, ours, ask(name, cluster, payload, reply + 1))?;
+    print_answer(rt, ours, ask(name, cluster, payload, reply - 1))
 }
 
 // Match requests: K7's, and again with other bindings; K8's, which finds none; and one for the input 0x0000, which 32 records have.
@@ -38,11 +38,11 @@ fn matches(rt: &impl Print) -> io::Result<()> {
     let ours = device::ours(2);
     let k7 = b"\x09\x34\x12\x04\x01\x01\x02\x04\x00";
     let k8 = b"\x0B\x34\x12\xFF\xFF\x00\x00";
-    print_told(rt, ours, ask("K7", 0x0006, k7, 7))?;
-    print_told(rt, ours, ask("K7", 0x0006, k7, 5))?;
+    print_answer(rt, ours, ask("K7", 0x0006, k7, 7))?;
+    print_answer(rt, ours, ask("K7", 0x0006, k7, 5))?;
     let table = bindings::table_of(3, 3, b"ABC");
     print_link(rt, table, ask("other bindings", 0x0006, k7, 7))?;
-    print_told(rt, ours, ask("K8", 0x0006, k8, 6))?;
+    print_answer(rt, ours, ask("K8", 0x0006, k8, 6))?;
     many_matches(rt)
 }
 
@@ -50,8 +50,8 @@ fn matches(rt: &impl Print) -> io::Result<()> {
 fn many_matches(rt: &impl Print) -> io::Result<()> {
     let of_32 = device::ours(32);
     let request = b"\x0C\x34\x12\x04\x01\x01\x00\x00\x00";
-    print_told(rt, of_32, ask("32 matches", 0x0006, request, 37))?;
-    print_told(rt, of_32, ask("32 matches", 0x0006, request, 36))
+    print_answer(rt, of_32, ask("32 matches", 0x0006, request, 37))?;
+    print_answer(rt, of_32, ask("32 matches", 0x0006, request, 36))
 }
 
 // Requests for addresses: ours, by the types 0, 1 and 2, and another device's, which is found out before the type is looked at.
@@ -75,12 +75,12 @@ fn nwk_addresses(rt: &impl Print) -> io::Result<()> {
 fn ieee_addresses(rt: &impl Print) -> io::Result<()> {
     let name = "IEEE address";
     let ours = device::ours(2);
-    print_told(rt, ours, ask(name, 0x0001, b"\x07\x34\x12\x00", 15))?;
-    print_told(rt, ours, ask(name, 0x0001, b"\x07\x34\x12\x01", 15))?;
-    print_told(rt, ours, ask(name, 0x0001, b"\x07\x34\x12\x01", 13))?;
-    print_told(rt, ours, ask(name, 0x0001, b"\x07\x34\x12\x02", 15))?;
-    print_told(rt, ours, ask(name, 0x0001, b"\x07\x78\x56\x01", 15))?;
-    print_told(rt, ours, ask(name, 0x0001, b"\x07\x78\x56\x02", 15))
+    print_answer(rt, ours, ask(name, 0x0001, b"\x07\x34\x12\x00", 15))?;
+    print_answer(rt, ours, ask(name, 0x0001, b"\x07\x34\x12\x01", 15))?;
+    print_answer(rt, ours, ask(name, 0x0001, b"\x07\x34\x12\x01", 13))?;
+    print_answer(rt, ours, ask(name, 0x0001, b"\x07\x34\x12\x02", 15))?;
+    print_answer(rt, ours, ask(name, 0x0001, b"\x07\x78\x56\x01", 15))?;
+    print_answer(rt, ours, ask(name, 0x0001, b"\x07\x78\x56\x02", 15))
 }
 
 // Requests about another short address, by our type. A reserved type is neither a router nor a coordinator, though 9 and 1 are both
@@ -100,11 +100,11 @@ fn by_type(rt: &impl Print, name: &str, logical_type: LogicalType) -> io::Result
     let mut device = ours.device;
     device.node.logical_type = logical_type;
     let tables = Tables { device, ..ours };
-    print_told(rt, tables, ask(name, 0x0002, b"\x07\x78\x56", 6))?;
-    print_told(rt, tables, ask(name, 0x0003, b"\x07\x78\x56", 6))?;
-    print_told(rt, tables, ask(name, 0x0004, b"\x07\x78\x56\x01", 6))?;
-    print_told(rt, tables, ask(name, 0x0005, b"\x07\x78\x56", 6))?;
-    print_told(rt, tables, ask(name, 0x0006, OTHER_MATCH, 6))
+    print_answer(rt, tables, ask(name, 0x0002, b"\x07\x78\x56", 6))?;
+    print_answer(rt, tables, ask(name, 0x0003, b"\x07\x78\x56", 6))?;
+    print_answer(rt, tables, ask(name, 0x0004, b"\x07\x78\x56\x01", 6))?;
+    print_answer(rt, tables, ask(name, 0x0005, b"\x07\x78\x56", 6))?;
+    print_answer(rt, tables, ask(name, 0x0006, OTHER_MATCH, 6))
 }
 
 // A match request about another short address.
@@ -114,9 +114,9 @@ const OTHER_MATCH: &[u8] = b"\x07\x78\x56\x04\x01\x00\x00";
 fn short_errors(rt: &impl Print) -> io::Result<()> {
     let name = "error";
     let ours = device::ours(2);
-    print_told(rt, ours, ask(name, 0x0002, b"\x07\x78\x56", 3))?;
-    print_told(rt, ours, ask(name, 0x0004, b"\x07\x78\x56\x01", 4))?;
-    print_told(rt, ours, ask(name, 0x0005, b"\x07\x78\x56", 4))?;
-    print_told(rt, ours, ask(name, 0x0006, OTHER_MATCH, 2))?;
-    print_told(rt, ours, ask(name, 0x0002, b"\x07\xFF\xFF", 6))
+    print_answer(rt, ours, ask(name, 0x0002, b"\x07\x78\x56", 3))?;
+    print_answer(rt, ours, ask(name, 0x0004, b"\x07\x78\x56\x01", 4))?;
+    print_answer(rt, ours, ask(name, 0x0005, b"\x07\x78\x56", 4))?;
+    print_answer(rt, ours, ask(name, 0x0006, OTHER_MATCH, 2))?;
+    print_answer(rt, ours, ask(name, 0x0002, b"\x07\xFF\xFF", 6))
 }

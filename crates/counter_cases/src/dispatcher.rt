@@ -156,7 +156,7 @@ pub(crate) fn print_ieee(
     let mut payload = [7u8; 10];
     write_u64(&mut payload, 1, ieee);
     payload[9] = last;
-    print_told(rt, device::ours(2), ask(name, cluster, &payload, room))
+    print_answer(rt, device::ours(2), ask(name, cluster, &payload, room))
 }
 
 // Lines for a request to our device with this binding table, and for the table then, which is given.
@@ -171,7 +171,7 @@ pub(crate) fn print_link<'a>(
 }
 
 // A line for a request to a device that has no bindings.
-pub(crate) fn print_told<'a>(
+pub(crate) fn print_answer<'a>(
     rt: &impl Print,
     tables: Tables<'a>,
     request: Request<'a>,

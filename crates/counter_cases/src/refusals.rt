@@ -2,7 +2,7 @@
 // are those of the module `dispatcher`.
 ghost use Rattle.std.specs.Prelude.{◌≤◌};
 
-use crate::dispatcher::{ask, bind_a, print_link, print_told};
+use crate::dispatcher::{ask, bind_a, print_answer, print_link};
 use crate::{bindings, device};
 use aps_binding_table::binding::BindingTable;
 use std::io;
@@ -20,9 +20,9 @@ pub(crate) fn in_order(rt: &impl Print) -> io::Result<()> {
 // Refusal 1: too many records, with an unknown cluster and with a leave, which looks at none; and a record past its pool.
 fn bad_devices(rt: &impl Print) -> io::Result<()> {
     let name = "bad device";
-    print_told(rt, device::ours(33), ask(name, 0x0033, b"", 0))?;
-    print_told(rt, device::ours(33), ask(name, 0x0034, b"", 0))?;
-    print_told(rt, device::of_inputs(5), ask(name, 0x0033, b"", 0))
+    print_answer(rt, device::ours(33), ask(name, 0x0033, b"", 0))?;
+    print_answer(rt, device::ours(33), ask(name, 0x0034, b"", 0))?;
+    print_answer(rt, device::of_inputs(5), ask(name, 0x0033, b"", 0))
 }
 
 // Refusal 1: a limit that is too high, and a count above its limit, with an unknown cluster; this with a node request too, which does
@@ -41,9 +41,9 @@ fn bad_bindings(rt: &impl Print) -> io::Result<()> {
 fn unknown_clusters(rt: &impl Print) -> io::Result<()> {
     let name = "unknown cluster";
     let ours = device::ours(2);
-    print_told(rt, ours, ask(name, 0x0033, b"\x07\x34\x12", 4))?;
-    print_told(rt, ours, ask(name, 0x8005, b"\x07\x34\x12", 4))?;
-    print_told(rt, ours, ask(name, 0x0033, b"", 0))
+    print_answer(rt, ours, ask(name, 0x0033, b"\x07\x34\x12", 4))?;
+    print_answer(rt, ours, ask(name, 0x8005, b"\x07\x34\x12", 4))?;
+    print_answer(rt, ours, ask(name, 0x0033, b"", 0))
 }
 
 // Refusal 3, and 5 with a byte more, which a leave never gets: the shortest payload of each request.
@@ -70,8 +70,8 @@ fn shortest(rt: &impl Print, cluster: u16, length: usize) -> io::Result<()>
 {
     let ours = device::ours(2);
     let payload = b"\x0A\x34\x12\x04\x01\x00\x00\x00\x00\x01\x02\x04\x01\x03\x00";
-    print_told(rt, ours, ask("shortest", cluster, &payload[..length], 0))?;
-    print_told(
+    print_answer(rt, ours, ask("shortest", cluster, &payload[..length], 0))?;
+    print_answer(
         rt,
         ours,
         ask("shortest", cluster, &payload[..length - 1], 0),
@@ -83,18 +83,18 @@ fn shortest(rt: &impl Print, cluster: u16, length: usize) -> io::Result<()>
 fn many_clusters(rt: &impl Print) -> io::Result<()> {
     let of_28 = device::of_inputs(27).with_inputs(&[0; 28]);
     let of_29 = device::of_inputs(28).with_inputs(&[0; 28]);
-    print_told(rt, of_29, ask("29 clusters", 0x0004, b"\x07\x34\x12", 0))?;
-    print_told(
+    print_answer(rt, of_29, ask("29 clusters", 0x0004, b"\x07\x34\x12", 0))?;
+    print_answer(
         rt,
         of_29,
         ask("29 clusters", 0x0004, b"\x07\x34\x12\x01", 0),
     )?;
-    print_told(
+    print_answer(
         rt,
         of_29,
         ask("29 clusters", 0x0004, b"\x07\x78\x56\x01", 6),
     )?;
-    print_told(
+    print_answer(
         rt,
         of_28,
         ask("28 clusters", 0x0004, b"\x07\x34\x12\x01", 0),
