@@ -10,6 +10,7 @@ ghost use Rattle.decimal.specs.Decimal.{decimal};
 use zigbee_types::Refusal;
 
 // How many digits a number has.
+#[tactic(auto, using(crate::proofs::Put::one_counted, crate::proofs::Put::more_fits, crate::proofs::Put::more_counted))]
 fn digit_count(n: u64) -> usize
     ensures { result ≡ length (decimal n) }
 {
@@ -21,6 +22,7 @@ fn digit_count(n: u64) -> usize
 
 // Puts the digits of a number at the front of a buffer that has room for them, and tells the place behind them: those of the quotient
 // by ten, and then the remainder.
+#[tactic(auto, using(crate::proofs::Put::one_counted, crate::proofs::Put::one_room, crate::proofs::Put::one_put, crate::proofs::Put::more_fits, crate::proofs::Put::more_counted, crate::proofs::Put::more_before, crate::proofs::Put::more_room, crate::proofs::Put::more_put))]
 fn put_decimal(out: &mut [u8], n: u64) -> usize
     requires { length (decimal n) ≤ length out.old }
     ensures { (result ≡ length (decimal n)) × (out.new ≡ sets out.old 0 (decimal n)) }

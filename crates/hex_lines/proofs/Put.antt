@@ -3,16 +3,16 @@
 use Prim.Native.Nat.{ℕ, ◌+◌, ◌*◌, ◌/◌, ◌%◌, ◌≤◌, ◌<◌}
 use native.Mathlib.Numerals.{add-one}
 use native.Mathlib.Omega.{arith}
-use mathlib.Core.Path.{◌≡◌, refl}
-use mathlib.Core.Bool.{true}
+use mathlib.Core.Path.{◌≡◌, refl, ap, ◌∙◌}
+use mathlib.Core.Bool.{true, and-eq-true_iff}
 use mathlib.Core.List.{List, [], ◌∷◌, ◌++◌}
 use lib.ListN.{length, get_or, take, set, length-append, length-set}
-use lib.Seq.{length-sets, take-suc, take_all}
-use borrow.Author.Tests.{lt-ltb, le-ltb}
+use lib.Seq.{sets, length-sets, take-suc, take_all}
+use borrow.Author.Tests.{ltb-true, lt-ltb, le-ltb}
 use Rattle.zigbee_types.specs.Lists.{all}
 use Rattle.zigbee_types.proofs.Fields.{sets_append}
 use Rattle.hex_lines.specs.Hex.{digit_value, is_digit, bytes_in, capital, digits_of, BytesPut}
-use Rattle.hex_lines.proofs.Digits.{digit_at, length_bytes, byte_in}
+use Rattle.hex_lines.proofs.Digits.{length_bytes}
 
 -- none leave the buffer as it was
 pub put_none : {s : List ℕ} {at : ℕ} → BytesPut [] s at at s
@@ -37,44 +37,82 @@ put_length {xs} {s} {at = at} p = rw p.left (length-sets s at xs)
 
 -- ---- the bytes of digits
 
--- the first i of them were put at the front
-pub record Decoded (ds : List ℕ) (i : ℕ) (before after : List ℕ) : Type 0 where
+-- the bytes in front were put, i of them, and what is left makes the whole: digits, taken two at a time
+pub record Decoded (ds left : List ℕ) (size i : ℕ) (before after : List ℕ) : Type 0 where
+  pub pairs : size ≡ 2
+  pub digits : all is_digit left ≡ true
+  pub counted : i + length (bytes_in left) ≡ length (bytes_in ds)
   pub same : length after ≡ length before
-  pub put : BytesPut (take i (bytes_in ds)) before 0 i after
+  pub put : sets after i (bytes_in left) ≡ sets before 0 (bytes_in ds)
 
 -- none, to begin with
-pub decoded_first : {ds s : List ℕ} → Decoded ds 0 s s
-decoded_first = record { same = refl; put = put_none }
+pub decoded_first :
+    (ds left : List ℕ) {s : List ℕ} (size i : ℕ) → left ≡ ds → size ≡ 2 → i ≡ 0 → all is_digit ds ≡ true → Decoded ds left size i s s
+decoded_first ds left size i e two none digits =
+    record { pairs = two; digits = rw e digits; counted = rw (e, none) (omega arith); same = refl; put = rw (e, none) }
 
-module _ (ds : List ℕ) (i : ℕ) (h : i < length ds / 2) where
-  -- the next two digits are digits
-  module _ (digits : all is_digit ds ≡ true) where
-    pub decoded_high : digit_value (get_or ds (2 * i) 0) < 16
-    decoded_high = digit_at ds (2 * i) digits (omega arith)
+-- two in front
+pair_is : (p : List ℕ) → length p ≡ 2 → p ≡ get_or p 0 0 ∷ get_or p 1 0 ∷ []
+pair_is [] e = absurd (omega arith)
+pair_is (a ∷ []) e = absurd (omega arith)
+pair_is (a ∷ b ∷ []) e = refl
+pair_is (a ∷ b ∷ c ∷ p) e = absurd (omega arith)
 
-    pub decoded_low : digit_value (get_or ds (2 * i + 1) 0) < 16
-    decoded_low = digit_at ds (2 * i + 1) digits (omega arith)
+module _ {ds left before after : List ℕ} {size i : ℕ} (p more : List ℕ) (d : Decoded ds left size i before after) (e : left ≡ p ++ more) (two : length p ≡ size) where
+  here : left ≡ get_or p 0 0 ∷ get_or p 1 0 ∷ more
+  here = e ∙ ap (λ q. q ++ more) (pair_is p (two ∙ d.pairs))
+
+  -- both are digits, and so are those behind them
+  digits : (digit_value (get_or p 0 0) < 16) × (digit_value (get_or p 1 0) < 16) × (all is_digit more ≡ true)
+  unfolding all is_digit
+  digits =
+      let (high, rest) = (and-eq-true_iff _ _).0 (rw here at d.digits) in
+      let (low, behind) = (and-eq-true_iff _ _).0 rest in
+      (ltb-true _ 16 high, ltb-true _ 16 low, behind)
+
+  pub decoded_high : digit_value (get_or p 0 0) < 16
+  decoded_high = digits.0
+
+  pub decoded_low : digit_value (get_or p 1 0) < 16
+  decoded_low = digits.1
 
   -- there is room for their byte
-  pub decoded_room : (k l : ℕ) → length (bytes_in ds) ≤ k → l ≡ k → i < l
-  decoded_room k l room same = omega (arith, length_bytes ds)
+  pub decoded_room : (k : ℕ) → k ≡ i → length (bytes_in ds) ≤ length before → k < length after
+  unfolding bytes_in
+  decoded_room k is room = omega (arith, d.same, rw here at d.counted)
 
   -- and it is put
   pub decoded_next :
-      {s t : List ℕ} {b : ℕ}
-      → Decoded ds i s t
-      → b ≡ 16 * digit_value (get_or ds (2 * i) 0) + digit_value (get_or ds (2 * i + 1) 0)
-      → Decoded ds (i + 1) s (set t i b)
-  decoded_next {s} {t} {b} d e =
-      let inside : i < length (bytes_in ds) = omega (arith, length_bytes ds) in
+      (size' k j b : ℕ)
+      → size' ≡ size
+      → k ≡ i
+      → j ≡ i + 1
+      → b ≡ 16 * digit_value (get_or p 0 0) + digit_value (get_or p 1 0)
+      → Decoded ds more size' j before (set after k b)
+  unfolding bytes_in
+  decoded_next size' k j b f at g is =
       record {
+        pairs = f ∙ d.pairs;
+        digits = digits.2;
+        counted = omega (arith, rw here at d.counted);
         same = rw length-set d.same;
-        put = rw (add-one i, take-suc (bytes_in ds) i 0 inside, ← byte_in ds i h, ← e, ← add-one i) (put_both d.put (put_one t i b));
+        put = rw (is, at, g, add-one) (rw here at d.put);
       }
 
+-- fewer than two make no byte
+none_left : {t u : List ℕ} (i : ℕ) (left : List ℕ) → length left < 2 → sets t i (bytes_in left) ≡ u → t ≡ u
+unfolding bytes_in
+none_left i [] h e = e
+none_left i (a ∷ []) h e = e
+none_left i (a ∷ b ∷ left) h e = absurd (omega arith)
+
 -- all of them
-pub decoded_end : {ds s t : List ℕ} {i : ℕ} → Decoded ds i s t → length ds / 2 ≤ i → BytesPut (bytes_in ds) s 0 i t
-decoded_end {ds} {i = i} d h = rw (take_all i (bytes_in ds) (rw length_bytes h)) at d.put
+pub decoded_end :
+    {ds left before after : List ℕ} {size i : ℕ}
+    → Decoded ds left size i before after
+    → length left < size
+    → BytesPut (bytes_in ds) before 0 (length ds / 2) after
+decoded_end {ds} {left} {i = i} d h = record { moved = rw length_bytes (omega arith); left = none_left i left (omega (arith, d.pairs)) d.put }
 
 -- ---- the digits of bytes
 

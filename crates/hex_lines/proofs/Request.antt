@@ -9,6 +9,8 @@ use lib.Dec.{eqb}
 use lib.ListN.{length, get_or, take, drop, length-drop}
 use lib.Seq.{take_all, length-take-le, get_or-take}
 use borrow.Author.Tests.{leb-true, le-leb, lt-leb, eq-eqb}
+use Rattle.std.specs.Prelude.{None, Some, Ok, Err}
+use Rattle.zigbee_types.specs.Answers.{says}
 use Rattle.zigbee_types.specs.Lists.{all}
 use Rattle.zigbee_types.specs.Outcome.{mapped, written}
 use Rattle.zigbee_types.specs.declared.Refusal.TheVariants.{ShortBuffer}
@@ -16,8 +18,6 @@ use Rattle.zigbee_types.proofs.Outcomes.{stored_front}
 use Rattle.zigbee_types.proofs.Scans.{said_no, said_yes}
 use Rattle.hex_lines.specs.Hex.{digit_value, is_digit, bytes_in, BytesPut}
 use Rattle.hex_lines.specs.RequestLine.{SPACE, is_request, cluster_in, request_in, with_room, heard_of, payload_left, LineRead}
-use Rattle.hex_lines.specs.Answers.{line_says}
-use Rattle.hex_lines.specs.declared.ParsedLine.TheVariants.{Request, Other, Refused}
 use Rattle.hex_lines.proofs.Digits.{digit_at, length_bytes}
 
 -- the characters behind the front of a line, as the code takes them
@@ -102,8 +102,8 @@ module _ (line : List ℕ) where
 
 module _ (line before : List ℕ) {t : Bool} (is : t ≡ is_request line) where
   -- it is no request
-  pub told_other : not t ≡ true → LineRead (request_in line) before (line_says Other) before
-  unfolding request_in with_room heard_of mapped payload_left line_says
+  pub told_other : not t ≡ true → LineRead (request_in line) before (says (Ok None)) before
+  unfolding request_in with_room heard_of mapped payload_left says
   told_other none = record { said = rw (said_no is none); left = rw (said_no is none) }
 
   module _ (one : not t ≡ false) where
@@ -112,8 +112,8 @@ module _ (line before : List ℕ) {t : Bool} (is : t ≡ is_request line) where
     payload_long = rw (length_bytes, rest_whole)
 
     -- there is no room for it
-    pub told_full : length before < length (rest line) / 2 → LineRead (request_in line) before (line_says (Refused ShortBuffer)) before
-    unfolding request_in with_room heard_of mapped payload_left line_says
+    pub told_full : length before < length (rest line) / 2 → LineRead (request_in line) before (says (Err ShortBuffer)) before
+    unfolding request_in with_room heard_of mapped payload_left says
     told_full h =
         let full : length before < length (bytes_in (drop 5 line)) = rw payload_long h in
         record { said = rw (said_yes is one, lt-leb _ _ full); left = rw (said_yes is one, lt-leb _ _ full) }
@@ -128,8 +128,8 @@ module _ (line before : List ℕ) {t : Bool} (is : t ≡ is_request line) where
           {cluster n : ℕ} {after : List ℕ}
           → cluster ≡ cluster_in line
           → BytesPut (bytes_in (rest line)) before 0 n after
-          → LineRead (request_in line) before (line_says (Request cluster n)) after
-      unfolding request_in with_room heard_of mapped payload_left line_says written
+          → LineRead (request_in line) before (says (Ok (Some (record { cluster = cluster; length = n })))) after
+      unfolding request_in with_room heard_of mapped payload_left says written
       told_request e p =
           let bytes : List ℕ = bytes_in (drop 5 line) in
           let fits : length bytes ≤ length before = rw payload_long h in

@@ -4,6 +4,7 @@ use Rattle.std.specs.Prelude.{ℕ, ◌+◌, ◌*◌, ◌/◌, ◌%◌, ◌≡◌
 use Rattle.zigbee_types.specs.Lists.{all}
 use Rattle.zigbee_types.specs.Outcome.{Outcome, answer, refusal, mapped, written}
 use Rattle.hex_lines.specs.Hex.{digit_value, is_digit, bytes_in, digits_of}
+use Rattle.hex_lines.specs.declared.ParsedRequest.{ParsedRequest}
 
 -- the character between the cluster and the bytes
 abbrev pub SPACE : ℕ
@@ -38,13 +39,8 @@ unfoldable pub with_room : ℕ → Option Request → Outcome (Option Request)
 with_room room None = answer None
 with_room room (Some q) = cond (leb (length q.payload) room) (answer (Some q)) (refusal 5)
 
--- what is told of a request: its cluster, and how long its payload is
-pub record Heard : Type 0 where
-  pub cluster : ℕ
-  pub length : ℕ
-
--- that of a request, where there is one
-unfoldable pub heard_of : Option Request → Option Heard
+-- what is told of a request, where there is one: its cluster, and how long its payload is
+unfoldable pub heard_of : Option Request → Option ParsedRequest
 heard_of None = None
 heard_of (Some q) = Some (record { cluster = q.cluster; length = length q.payload })
 
@@ -55,7 +51,7 @@ payload_left before (answer (Some q)) = written before (answer q.payload)
 payload_left before (refusal n) = before
 
 -- a line that comes to o: what is told, and the buffer after it
-pub record LineRead (o : Option Request) (before : List ℕ) (told : Outcome (Option Heard)) (after : List ℕ) : Type 0 where
+pub record LineRead (o : Option Request) (before : List ℕ) (told : Outcome (Option ParsedRequest)) (after : List ℕ) : Type 0 where
   pub said : told ≡ mapped heard_of (with_room (length before) o)
   pub left : after ≡ payload_left before (with_room (length before) o)
 

@@ -5,18 +5,16 @@ ghost use Rattle.std.specs.Prelude.{◌≡◌, true, [], ◌∷◌, ◌+◌, ◌
 ghost use Rattle.zigbee_types.specs.Lists.{all};
 ghost use Rattle.zigbee_types.specs.Outcome.{answer, Wrote};
 ghost use Rattle.zigbee_types.specs.Answers.{says};
-ghost use Rattle.hex_lines.specs.Hex.{between, digit_value, is_digit, bytes_in, capital, digits_of, BytesPut};
+ghost use Rattle.hex_lines.specs.Hex.{digit_value, is_digit, bytes_in, capital, digits_of, BytesPut};
 ghost use Rattle.hex_lines.specs.RequestLine.{is_request, cluster_in, request_in, LineRead, hex_line};
-ghost use Rattle.hex_lines.specs.Answers.{line_says};
 
 use zigbee_types::Refusal;
 
-// What a line is: a request, with its cluster and the length of its payload; none; or why it was refused.
+// A request that was read: its cluster, and the length of its payload.
 #[derive(Clone, Copy)]
-pub enum ParsedLine {
-    Request { cluster: u16, length: usize },
-    Other,
-    Refused(Refusal),
+pub struct ParsedRequest {
+    pub cluster: u16,
+    pub length: usize,
 }
 
 // The characters that a line has in front of its bytes: four digits and a space.
@@ -24,44 +22,30 @@ const FRONT: usize = 5;
 
 // ---- reading
 
-// Whether a character lies between two others, or is one of them.
-fn is_between(low: u8, high: u8, character: u8) -> bool
-    ensures { result ≡ between low high character }
-{
-    (low <= character) & (character <= high)
-}
-
 // The value of a digit of either case, and 16 for any other character.
+#[tactic(auto, using(crate::proofs::Digits::inside, crate::proofs::Digits::below, crate::proofs::Digits::above, crate::proofs::Digits::value_decimal, crate::proofs::Digits::value_capital, crate::proofs::Digits::value_small, crate::proofs::Digits::value_none))]
 fn digit_value(character: u8) -> u8
     ensures { result ≡ digit_value character }
 {
-    if is_between(b'0', b'9', character) {
-        return character - b'0';
+    match character {
+        b'0'..=b'9' => character - b'0',
+        b'A'..=b'F' => character - 55,
+        b'a'..=b'f' => character - 87,
+        _ => 16,
     }
-    if is_between(b'A', b'F', character) {
-        return character - 55;
-    }
-    if is_between(b'a', b'f', character) {
-        return character - 87;
-    }
-    16
 }
 
 // Whether each character is a digit.
 fn are_digits(characters: &[u8]) -> bool
     ensures { result ≡ all is_digit characters.now }
 {
-    let mut i: usize = 0;
-    while i < characters.len() {
-        if digit_value(characters[i]) >= 16 {
-            return false;
-        }
-        i += 1;
-    }
-    true
+    characters
+        .iter()
+        .all(|character| digit_value(*character) < 16)
 }
 
 // Whether a line is a request's: four digits, a space, and two digits for each byte, of which there is one or more.
+#[tactic(auto, using(crate::proofs::Request::line_short, crate::proofs::Request::line_even, crate::proofs::Request::line_front, crate::proofs::Request::line_tested))]
 fn is_request(line: &[u8]) -> bool
     ensures { result ≡ is_request line.now }
 {
@@ -74,22 +58,22 @@ fn is_request(line: &[u8]) -> bool
     are_digits(&line[..4]) & (line[4] == b' ') & are_digits(&line[FRONT..])
 }
 
-// The byte that two digits stand for, the high one at a place and the low one behind it.
-fn byte_at(digits: &[u8], at: usize) -> u8
-    requires at_in_bounds { at + 2 ≤ length digits.now }
-    requires at_bound { digit_value (get_or digits.now at 0) < 16 }
-    requires at_bound_2 { digit_value (get_or digits.now (at + 1) 0) < 16 }
-    ensures { result ≡ 16 * digit_value (get_or digits.now at 0) + digit_value (get_or digits.now (at + 1) 0) }
+// The byte that two digits stand for, the high one first.
+fn byte_of(high: u8, low: u8) -> u8
+    requires high_bound { digit_value high < 16 }
+    requires low_bound { digit_value low < 16 }
+    ensures { result ≡ 16 * digit_value high + digit_value low }
 {
-    16 * digit_value(digits[at]) + digit_value(digits[at + 1])
+    16 * digit_value(high) + digit_value(low)
 }
 
 // The cluster of a request: the number of its first four digits, the first the highest.
+#[tactic(auto, using(crate::proofs::Request::request_long, crate::proofs::Request::request_digit, crate::proofs::Request::cluster_is))]
 fn cluster_of(line: &[u8]) -> u16
     requires { is_request line.now ≡ true }
     ensures { result ≡ cluster_in line.now }
 {
-    256 * (byte_at(line, 0) as u16) + (byte_at(line, 2) as u16)
+    256 * (byte_of(line[0], line[1]) as u16) + (byte_of(line[2], line[3]) as u16)
 }
 
 // Puts the bytes that digits stand for at the front of a buffer that has room for them, and tells the place behind them.
@@ -98,37 +82,35 @@ fn put_payload(out: &mut [u8], digits: &[u8]) -> usize
     requires digits_in_bounds { length (bytes_in digits.now) ≤ length out.old }
     ensures { BytesPut (bytes_in digits.now) out.old 0 result out.new }
 {
-    let count = digits.len() / 2;
-    let mut i: usize = 0;
-    while i < count {
-        out[i] = byte_at(digits, 2 * i);
-        i += 1;
+    for (i, pair) in digits.chunks_exact(2).enumerate() {
+        out[i] = byte_of(pair[0], pair[1]);
     }
-    i
+    digits.len() / 2
 }
 
 // Reads a line. A request's payload is put at the front of the buffer, and its cluster and the payload's length are told. A line that
 // is no request, and a payload that is longer than the buffer, leave the buffer as it was.
-pub fn parse_line(line: &[u8], payload: &mut [u8]) -> ParsedLine
-    ensures { LineRead (request_in line.now) payload.old (line_says result) payload.new }
+pub fn parse_line(line: &[u8], payload: &mut [u8]) -> Result<Option<ParsedRequest>, Refusal>
+    ensures { LineRead (request_in line.now) payload.old (says result) payload.new }
 {
     if !is_request(line) {
-        return ParsedLine::Other;
+        return Ok(None);
     }
     let digits = &line[FRONT..];
     if payload.len() < digits.len() / 2 {
-        return ParsedLine::Refused(Refusal::ShortBuffer);
+        return Err(Refusal::ShortBuffer);
     }
     let length = put_payload(payload, digits);
-    ParsedLine::Request {
+    Ok(Some(ParsedRequest {
         cluster: cluster_of(line),
         length,
-    }
+    }))
 }
 
 // ---- writing
 
 // The digit of a number below 16, in capitals.
+#[tactic(auto, using(crate::proofs::Put::capital_low, crate::proofs::Put::capital_high))]
 fn capital(n: u8) -> u8
     requires { n < 16 }
     ensures { result ≡ capital n }
@@ -155,10 +137,8 @@ fn put_digits(out: &mut [u8], at: usize, bytes: &[u8]) -> usize
     ensures { BytesPut (digits_of bytes.now) out.old at result out.new }
 {
     let mut at = at;
-    let mut i: usize = 0;
-    while i < bytes.len() {
-        at = put_pair(out, at, bytes[i]);
-        i += 1;
+    for &byte in bytes {
+        at = put_pair(out, at, byte);
     }
     at
 }

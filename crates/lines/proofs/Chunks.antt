@@ -10,7 +10,6 @@ use lib.ListN.{length, take, drop, set, length-append, length-drop, length-set, 
 use lib.Seq.{take-suc-set, drop-drop}
 use borrow.Author.Tests.{eqb-true, eqb-false, leb-true, leb-false, le-leb, lt-leb, ne_eqb}
 use Rattle.lines.specs.Lines.{LINE_FEED, begins, lines_of, line_within, lines_within}
-use Rattle.lines.specs.Lines as lines
 use Rattle.lines.specs.Splitter.{Pending, pending, grown, ended, Taken, later, split, last}
 use Rattle.lines.specs.Chunks.{found_line, read_to, run, joined, ChunksJoin}
 use Rattle.lines.proofs.Taken.{split_takes}

@@ -1,5 +1,5 @@
 -- Characters of a chunk, taken one by one. Assumes nothing.
-use Prim.Native.Nat.{ℕ, suc, ◌+◌, ◌≤◌, ◌<◌}
+use Prim.Native.Nat.{ℕ, suc, ◌+◌, ◌<◌}
 use native.Mathlib.Numerals.{add-one}
 use native.Mathlib.Omega.{arith}
 use mathlib.Core.Path.{◌≡◌, refl, ◌∙◌}
@@ -14,13 +14,12 @@ use Rattle.lines.specs.Splitter.{Pending, pending, grown, ended, later, split, S
 use Rattle.lines.specs.declared.splitter.Found.{Found}
 use Rattle.lines.specs.declared.splitter.Found.TheVariants.{Nothing}
 
--- a loop that takes characters from a place of a chunk on has come to i, and the line that has begun is q: what is left to do is what
--- the whole is
-pub record Going (p : Pending) (chunk : List ℕ) (at i : ℕ) (q : Pending) : Type 0 where
+-- i of some characters were taken, and the line that has begun is q: what is left to do is what the whole is
+pub record Going (p : Pending) (chars : List ℕ) (i : ℕ) (q : Pending) : Type 0 where
   pub same : length q.buffer ≡ length p.buffer
-  pub found : (split p (drop at chunk)).found ≡ (split q (drop i chunk)).found
-  pub rest : (split p (drop at chunk)).rest ≡ (split q (drop i chunk)).rest
-  pub taken : at + (split p (drop at chunk)).taken ≡ i + (split q (drop i chunk)).taken
+  pub found : (split p chars).found ≡ (split q (drop i chars)).found
+  pub rest : (split p chars).rest ≡ (split q (drop i chars)).rest
+  pub taken : (split p chars).taken ≡ i + (split q (drop i chars)).taken
 
 -- the buffer stays as long as it is
 grown_same : (p : Pending) (c : ℕ) → length (grown p c).buffer ≡ length p.buffer
@@ -28,61 +27,66 @@ unfolding grown
 grown_same p c = length-set p.buffer p.count c
 
 -- nothing was taken, to begin with
-pub going_first : (p : Pending) (chunk : List ℕ) (at : ℕ) → Going p chunk at at p
-going_first p chunk at = record { same = refl; found = refl; rest = refl; taken = refl }
+pub going_first : (p : Pending) (chars : List ℕ) → Going p chars 0 p
+going_first p chars = record { same = refl; found = refl; rest = refl; taken = omega arith }
 
-module _ {p q : Pending} {chunk : List ℕ} {at i : ℕ} (g : Going p chunk at i q) where
-  module _ (h : i < length chunk) where
-    here : drop i chunk ≡ get_or chunk i 0 ∷ drop (i + 1) chunk
-    here = rw add-one (drop-cons chunk i 0 h)
+module _ {p q : Pending} {chars : List ℕ} {i : ℕ} (g : Going p chars i q) where
+  module _ (h : i < length chars) where
+    here : drop i chars ≡ get_or chars i 0 ∷ drop (i + 1) chars
+    here = rw add-one (drop-cons chars i 0 h)
 
     -- the next is no line feed
-    on : (get_or chunk i 0 ≡ LINE_FEED → ⊥) → split q (drop i chunk) ≡ later (split (grown q (get_or chunk i 0)) (drop (i + 1) chunk))
+    on : (get_or chars i 0 ≡ LINE_FEED → ⊥) → split q (drop i chars) ≡ later (split (grown q (get_or chars i 0)) (drop (i + 1) chars))
     unfolding split
-    on other = rw (here, ne_eqb (get_or chunk i 0) LINE_FEED other)
+    on other = rw (here, ne_eqb (get_or chars i 0) LINE_FEED other)
 
     -- so it is taken
-    pub going_next : (get_or chunk i 0 ≡ LINE_FEED → ⊥) → {r : Pending} → r ≡ grown q (get_or chunk i 0) → Going p chunk at (i + 1) r
+    pub going_next : (get_or chars i 0 ≡ LINE_FEED → ⊥) → {r : Pending} → r ≡ grown q (get_or chars i 0) → Going p chars (i + 1) r
     unfolding later
     going_next other {r} is =
         let step = on other in
         record {
-          same = rw (is, grown_same q (get_or chunk i 0)) g.same;
+          same = rw (is, grown_same q (get_or chars i 0)) g.same;
           found = rw is (g.found ∙ rw step);
           rest = rw is (g.rest ∙ rw step);
           taken = rw is (g.taken ∙ rw step (omega arith));
         }
 
     -- the next is one: it ends the line
-    stop : get_or chunk i 0 ≡ LINE_FEED → split q (drop i chunk) ≡ record { found = ended q; rest = pending 0 q.buffer; taken = 1 }
+    stop : get_or chars i 0 ≡ LINE_FEED → split q (drop i chars) ≡ record { found = ended q; rest = pending 0 q.buffer; taken = 1 }
     unfolding split
-    stop e = rw (here, eq-eqb (get_or chunk i 0) LINE_FEED e)
+    stop e = rw (here, eq-eqb (get_or chars i 0) LINE_FEED e)
 
     pub going_found :
-        get_or chunk i 0 ≡ LINE_FEED
-        → (f : Found)
+        {whole : List ℕ} {f : Found} (at : ℕ)
+        → chars ≡ whole
+        → get_or chars i 0 ≡ LINE_FEED
         → f ≡ ended q
-        → Splits (split p (drop at chunk)) at (record { splitter = record { count = 0 }; at = i + 1; found = f }) q.buffer
-    going_found e f is =
+        → Splits (split p whole) at (record { splitter = record { count = 0 }; at = at + i + 1; found = f }) q.buffer
+    going_found at all e is =
         let end = stop e in
-        record {
+        rw (← all) (record {
           told = rw (g.found, end) is;
           kept = rw (g.rest, end);
-          moved = rw (g.taken, end);
+          moved = rw (g.taken, end) (omega arith);
           left = rw (g.rest, end);
-        }
+        })
 
   -- there is no next
-  pub going_end : length chunk ≤ i → Splits (split p (drop at chunk)) at (record { splitter = record { count = q.count }; at = i; found = Nothing }) q.buffer
+  pub going_end :
+      {whole : List ℕ} (at : ℕ)
+      → chars ≡ whole
+      → i ≡ length chars
+      → Splits (split p whole) at (record { splitter = record { count = q.count }; at = at + length chars; found = Nothing }) q.buffer
   unfolding split
-  going_end h =
-      let none : drop i chunk ≡ [] = drop_of_length-le chunk h in
-      record {
+  going_end at all e =
+      let none : drop i chars ≡ [] = drop_of_length-le chars (omega arith) in
+      rw (← all) (record {
         told = rw (g.found, none);
         kept = rw (g.rest, none);
         moved = rw (g.taken, none) (omega arith);
         left = rw (g.rest, none);
-      }
+      })
 
 -- ---- for whoever goes on until a chunk is used up
 

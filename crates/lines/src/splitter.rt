@@ -3,13 +3,15 @@
 ghost use Rattle.std.specs.Prelude.{◌≡◌, drop};
 ghost use Rattle.lines.specs.Splitter.{pending, grown, ended, split, last, Splits};
 
-// How many characters the line has that has begun. A number above the buffer's length says that they are too many.
+// How many characters the line has that has begun. A number above the buffer's length says that they are too many. (The buffer is no
+// field: a splitter that borrowed it would do so between the calls too, and `OneSplit` speaks of the two apart.)
 #[derive(Clone, Copy)]
 pub struct Splitter {
     pub count: usize,
 }
 
-// What was found: a line, its characters at the front of the buffer; a line that is too long; or none yet.
+// What was found: a line, its characters at the front of the buffer; a line that is too long; or none yet. (These are three kinds, of
+// which none refuses anything: an Option of a Result would be no plainer.)
 #[derive(Clone, Copy)]
 pub enum Found {
     Line(usize),
@@ -26,6 +28,7 @@ pub struct Split {
 }
 
 // Puts a character behind those that a line has, where there is room, and tells how many they are then.
+#[tactic(auto, using(crate::proofs::Grown::grown_put, crate::proofs::Grown::grown_full, crate::proofs::Grown::grown_past))]
 fn put(line: &mut [u8], count: usize, character: u8) -> usize
     ensures { pending result line.new ≡ grown (pending count line.old) character }
 {
@@ -40,6 +43,7 @@ fn put(line: &mut [u8], count: usize, character: u8) -> usize
 }
 
 // The line of so many characters that ends: whole, or too long.
+#[tactic(auto, using(crate::proofs::Grown::ended_long, crate::proofs::Grown::ended_whole))]
 fn ended(count: usize, line: &[u8]) -> Found
     ensures { result ≡ ended (pending count line.now) }
 {
@@ -47,6 +51,13 @@ fn ended(count: usize, line: &[u8]) -> Found
         return Found::Overlong;
     }
     Found::Line(count)
+}
+
+// The characters of a chunk from a place on; none where it ends before that.
+fn behind(chunk: &[u8], at: usize) -> &[u8]
+    ensures { result.now ≡ drop at chunk.now }
+{
+    chunk.get(at..).unwrap_or(&[])
 }
 
 impl Splitter {
@@ -61,15 +72,13 @@ impl Splitter {
     pub fn next(self, chunk: &[u8], at: usize, line: &mut [u8]) -> Split
         ensures { Splits (split (pending self.count line.old) (drop at chunk.now)) at result line.new }
     {
+        let rest = behind(chunk, at);
         let mut count = self.count;
-        let mut at = at;
-        while at < chunk.len() {
-            let character = chunk[at];
-            at += 1;
+        for (taken, &character) in rest.iter().enumerate() {
             if character == b'\n' {
                 return Split {
                     splitter: Splitter { count: 0 },
-                    at,
+                    at: at + taken + 1,
                     found: ended(count, line),
                 };
             }
@@ -77,12 +86,13 @@ impl Splitter {
         }
         Split {
             splitter: Splitter { count },
-            at,
+            at: at + rest.len(),
             found: Found::Nothing,
         }
     }
 
     // The end of the input: the last line, if it has a character.
+    #[tactic(auto, using(crate::proofs::Grown::last_none, crate::proofs::Grown::last_some))]
     pub fn end(self, line: &[u8]) -> Found
         ensures { result ≡ last (pending self.count line.now) }
     {

@@ -1,16 +1,10 @@
--- `are_digits` meets its contract. The loop's invariant: the first i characters are digits. The measure is how many are left.
--- Assumes nothing.
-use borrow.Author.Rules.{rules}
-use Rattle.hex_lines.proofs.Digits.{scanned_first, scanned_end, scanned_next, scanned_here}
+-- `are_digits` meets its contract: each character was asked. Assumes nothing.
+use Rattle.std.proofs.Common.{refl, rules}
+use Rattle.std.proofs.lemmas.List.Recursion.{and_is}
+use Rattle.zigbee_types.specs.Lists.{all}
+use Rattle.hex_lines.specs.Hex.{is_digit}
 use Rattle.hex_lines.proofs.are_digits.Goals as goal
 
-ruleset laws = (rules, scanned_first, scanned_end, scanned_next, scanned_here)
-
-pub returns-then-digit_value-ge16 : goal.returns-then-digit_value-ge16
-returns-then-digit_value-ge16 c = search laws
-
-pub loop-i-preserved : goal.loop-i-preserved
-loop-i-preserved c = search laws
-
 pub returns : goal.returns
-returns c = search laws
+unfolding all is_digit
+returns c = and_is (all is_digit) is_digit refl (λ _ _. refl) c.args.characters.now 0 _ (search rules) (search rules)
