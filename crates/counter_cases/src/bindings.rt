@@ -143,64 +143,24 @@ fn routes(rt: &impl Print) -> io::Result<()> {
 
 // Whether A equals itself, and each entry that differs from it in one field, in the address once at each end.
 fn equal(rt: &impl Print) -> io::Result<()> {
-    let a = entry(b'A');
-    let last_bit = IeeeAddress(1);
-    let first_bit = IeeeAddress(0x8000000000000000);
     print!(rt; "A equals")?;
-    print_equal(rt, a)?;
-    print_equal(
-        rt,
-        Binding {
-            src_endpoint: 2,
-            ..a
-        },
-    )?;
-    print_equal(
-        rt,
-        Binding {
-            cluster_id: 0x0403,
-            ..a
-        },
-    )?;
-    print_equal(
-        rt,
-        Binding {
-            dst_addr_mode: 3,
-            ..a
-        },
-    )?;
-    print_equal(
-        rt,
-        Binding {
-            dst_group: GroupAddress(4),
-            ..a
-        },
-    )?;
-    print_equal(
-        rt,
-        Binding {
-            dst_ieee: last_bit,
-            ..a
-        },
-    )?;
-    print_equal(
-        rt,
-        Binding {
-            dst_ieee: first_bit,
-            ..a
-        },
-    )?;
-    print_equal(
-        rt,
-        Binding {
-            dst_endpoint: 1,
-            ..a
-        },
-    )?;
+    print_equal(rt, |_| {})?;
+    print_equal(rt, |b| b.src_endpoint = 2)?;
+    print_equal(rt, |b| b.cluster_id = 0x0403)?;
+    print_equal(rt, |b| b.dst_addr_mode = 3)?;
+    print_equal(rt, |b| b.dst_group = GroupAddress(0x0004))?;
+    print_equal(rt, |b| b.dst_ieee = IeeeAddress(1))?;
+    print_equal(rt, |b| b.dst_ieee = IeeeAddress(0x8000000000000000))?;
+    print_equal(rt, |b| b.dst_endpoint = 1)?;
     println!(rt)
 }
 
-// Whether A equals this entry.
-fn print_equal(rt: &impl Print, other: Binding) -> io::Result<()> {
-    print!(rt; " {}", (entry(b'A') == other) as u8)
+// Whether A equals itself after a change.
+fn print_equal<F: FnOnce(&mut Binding)>(rt: &impl Print, change: F) -> io::Result<()>
+    requires { F.IsAlwaysCallable change }
+{
+    let a = entry(b'A');
+    let mut other = a;
+    change(&mut other);
+    print!(rt; " {}", (a == other) as u8)
 }

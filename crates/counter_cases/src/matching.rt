@@ -228,9 +228,13 @@ fn print_places(
 fn print_asked(rt: &impl Print, name: &str, payload: &[u8], room: usize) -> io::Result<()>
     requires { room ≤ 71 }
 {
-    print::or_refusal(rt, parse_match_desc_req(payload), |request| {
-        print_matching(rt, name, device::ours(2), request, payload, room)
-    })
+    print::or_refusal(
+        rt,
+        parse_match_desc_req(payload),
+        |request|
+            requires { room ≤ 71 }
+        { print_matching(rt, name, device::ours(2), request, payload, room) },
+    )
 }
 
 // A line for what a device answers to a request, in a buffer of so many bytes.
