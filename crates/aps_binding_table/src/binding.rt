@@ -7,6 +7,7 @@ use aps_binding::binding::Binding;
 use zigbee_types::{GroupAddress, Refusal};
 
 // The binding table as held in the AIB: thirty-two places, of which the first `count` are used, and at most `limit` may be.
+// (An array with a count beside it: document 01's form, with no heap.)
 #[derive(Clone, Copy)]
 pub struct BindingTable {
     pub entries: [Binding; 32],
