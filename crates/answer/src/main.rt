@@ -53,7 +53,8 @@ fn answer_behind(
     }
 }
 
-// Answers the lines that end in a chunk, turn by turn, and writes the answers out.
+// Answers the lines that end in a chunk, turn by turn, and writes the answers out. (The place comes back from each turn, which takes any
+// number of characters: a `for` could not count it.)
 fn answer_chunk(
     rt: &impl Print,
     begun: Session,

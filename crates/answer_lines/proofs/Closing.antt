@@ -1,9 +1,10 @@
 -- The end of the input: the number of bindings behind its word, its line feed, and both behind the answer to the last line. Assumes
 -- nothing.
 use Rattle.std.specs.Prelude.{Result, Ok, Err}
+use Rattle.std.specs.Result.{result_unwrap_or}
 use Prim.Native.Nat.{ℕ, ◌+◌, ◌-◌, ◌^◌, ◌≤◌, ◌<◌}
 use native.Mathlib.Omega.{arith}
-use mathlib.Core.Path.{◌≡◌, refl, sym}
+use mathlib.Core.Path.{◌≡◌, refl, sym, ◌∙◌}
 use mathlib.Core.List.{List}
 use lib.ListN.{length, take, drop, set, length-append}
 use lib.Seq.{take_at, length-take-le}
@@ -38,26 +39,23 @@ module _ (n : ℕ) (small : n < 2 ^ 64) (d : Result ℕ Refusal) {before middle 
   told_digits : says d ≡ answer (length (decimal n))
   told_digits = more_told BINDINGS (decimal n) word both p
 
-  module _ {k : ℕ} (is : d ≡ Ok k) where
-    digits : answer k ≡ answer (length (decimal n))
-    unfolding says
-    digits = rw is at told_digits
+  -- so they are not refused, and their number is told
+  digits_told : (d : Result ℕ Refusal) → says d ≡ answer (length (decimal n)) → d ≡ Ok (length (decimal n))
+  unfolding says
+  digits_told (Ok k) told = let long : k ≡ length (decimal n) = cc in rw long
+  digits_told (Err why) told = absurd (refused told)
+
+  module _ {k : ℕ} (is : k ≡ result_unwrap_or d 0) where
+    long : k ≡ length (decimal n)
+    long = is ∙ rw (digits_told d told_digits)
 
     -- the length of both is a number of the machine
     pub count_fits : Fits w64 (9 + k)
-    count_fits =
-        let told = digits in
-        let long : k ≡ length (decimal n) = cc in
-        record { fits = omega (arith, digits_few n small) }
+    count_fits = record { fits = omega (arith, digits_few n small, long) }
 
     pub count_written : Wrote (answer (count_text n)) before (answer (9 + k)) (put_mid 9 (length middle - 9) middle v)
-    unfolding count_text says
-    count_written = both_written BINDINGS (decimal n) word both p (rw is)
-
-  -- the digits are not refused
-  pub count_refused : {why : Refusal} → d ≡ Err why → Wrote (answer (count_text n)) before (answer 9) (put_mid 9 (length middle - 9) middle v)
-  unfolding says
-  count_refused is = absurd (refused (rw is at told_digits))
+    unfolding count_text
+    count_written = both_written BINDINGS (decimal n) word both p (rw long told_digits)
 
 -- ---- its line feed
 

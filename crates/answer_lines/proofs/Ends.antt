@@ -5,8 +5,8 @@ use native.Mathlib.Numerals.{add-one}
 use native.Mathlib.Omega.{arith}
 use mathlib.Core.Path.{◌≡◌, refl, sym, ◌∙◌}
 use mathlib.Core.List.{List, [], ◌∷◌, ◌++◌, append_assoc}
-use lib.ListN.{length, take, drop, set, length-append}
-use lib.Seq.{sets, take_all, length-take-le, set_at, drop-cons}
+use lib.ListN.{length, drop, set, length-append}
+use lib.Seq.{sets, set_at, drop-cons}
 use mir.Syntax.{w64}
 use mir.Val.{Fits}
 use borrow.Author.Tests.{le-leb}
@@ -21,14 +21,6 @@ use Rattle.lines.specs.Lines.{LINE_FEED}
 use Rattle.answer_lines.specs.Session.{Inside, line_end, Ends}
 
 -- ---- the code that puts it
-
--- the front of a buffer: all of it, where more is asked for; otherwise as many as are asked for
-module _ (n : ℕ) (buffer : List ℕ) where
-  pub front_all : length buffer < n → buffer ≡ take n buffer
-  front_all h = sym (take_all n buffer (omega arith))
-
-  pub front_part : n ≤ length buffer → n ≡ length (take n buffer)
-  front_part h = sym (length-take-le n buffer h)
 
 module _ (w : Result ℕ Refusal) (out : List ℕ) (told : Inside (says w) out) where
   module _ {n : ℕ} (is : w ≡ Ok n) where

@@ -1,5 +1,6 @@
 -- What was read of a line: a request with its payload in the buffer, or None; and that the longest line has room. Assumes nothing.
-use Rattle.std.specs.Prelude.{Option, None, Some}
+use Rattle.std.specs.Prelude.{Option, None, Some, Result, Ok, Err}
+use Rattle.std.specs.Result.{result_unwrap_or}
 use Prim.Native.Nat.{ℕ, ◌≤◌}
 use native.Mathlib.Omega.{arith}
 use mathlib.Core.Path.{◌≡◌, refl, sym}
@@ -9,16 +10,15 @@ use lib.Dec.{leb}
 use lib.ListN.{length, take, drop, length-append, length-drop}
 use lib.Seq.{take_at, length-take-le}
 use borrow.Author.Tests.{le-leb}
+use Rattle.zigbee_types.specs.Answers.{says}
 use Rattle.zigbee_types.specs.Lists.{option}
 use Rattle.zigbee_types.specs.Outcome.{Outcome, answer, refusal, mapped, written, Wrote}
 use Rattle.zigbee_types.specs.declared.Refusal.{Refusal}
 use Rattle.aps_binding_table.specs.declared.binding.BindingTable.{BindingTable}
 use Rattle.lines.specs.Lines.{whole}
-use Rattle.hex_lines.specs.Answers.{line_says}
 use Rattle.hex_lines.specs.Hex.{bytes_in}
-use Rattle.hex_lines.specs.RequestLine.{Request, is_request, cluster_in, request_in, with_room, Heard, heard_of, payload_left, LineRead}
-use Rattle.hex_lines.specs.declared.ParsedLine.{ParsedLine}
-use Rattle.hex_lines.specs.declared.ParsedLine.TheVariants as parsed
+use Rattle.hex_lines.specs.RequestLine.{Request, is_request, cluster_in, request_in, with_room, heard_of, payload_left, LineRead}
+use Rattle.hex_lines.specs.declared.ParsedRequest.{ParsedRequest}
 use Rattle.hex_lines.proofs.Digits.{length_bytes}
 use Rattle.our_device.specs.OurDevice.{ours}
 use Rattle.answer_lines.specs.Session.{QUESTION, heard, unheard, said, Tells}
@@ -30,8 +30,8 @@ record Stands (o : Option Request) (cluster n : ℕ) (after : List ℕ) : Type 0
   is : o ≡ Some (record { cluster = cluster; payload = take n after })
   within : n ≤ length after
 
-stands : (o : Option Request) {before after : List ℕ} (cluster n : ℕ) → LineRead o before (line_says (parsed.Request cluster n)) after → Stands o cluster n after
-unfolding line_says with_room mapped heard_of payload_left written
+stands : (o : Option Request) {before after : List ℕ} (cluster n : ℕ) → LineRead o before (says (Ok (Some (record { cluster = cluster; length = n })))) after → Stands o cluster n after
+unfolding says with_room mapped heard_of payload_left written
 stands None cluster n l = let e = l.said in let z : ◌≡◌ {A = ℕ} 0 1 = cc in absurd (omega arith)
 stands (Some q) {before} {after} cluster n l = go (leb (length q.payload) (length before)) l.said l.left
   where
@@ -41,7 +41,7 @@ stands (Some q) {before} {after} cluster n l = go (leb (length q.payload) (lengt
         → after ≡ payload_left before (cond t (answer (Some q)) (refusal 5))
         → Stands (Some q) cluster n after
     go true e left =
-        let told : ◌≡◌ {A = Heard} (record { cluster = cluster; length = n }) (record { cluster = q.cluster; length = length q.payload }) = cc in
+        let told : ◌≡◌ {A = ParsedRequest} (record { cluster = cluster; length = n }) (record { cluster = q.cluster; length = length q.payload }) = cc in
         let same : q.cluster ≡ cluster = λ i. (sym told i).cluster in
         let long : n ≡ length q.payload = λ i. (told i).length in
         record {
@@ -52,8 +52,8 @@ stands (Some q) {before} {after} cluster n l = go (leb (length q.payload) (lengt
 
 -- ---- None
 
-no_request : (o : Option Request) {before after : List ℕ} → LineRead o before (line_says parsed.Other) after → o ≡ None
-unfolding line_says with_room mapped heard_of
+no_request : (o : Option Request) {before after : List ℕ} → LineRead o before (says (Ok None)) after → o ≡ None
+unfolding says with_room mapped heard_of
 no_request None l = refl
 no_request (Some q) {before} l = go (leb (length q.payload) (length before)) l.said
   where
@@ -80,9 +80,9 @@ never_full :
     → request_in line ≡ o
     → length line ≤ 4096
     → 2045 ≤ length before
-    → LineRead o before (line_says (parsed.Refused why)) after
+    → LineRead o before (says (Err why)) after
     → ⊥
-unfolding line_says with_room mapped heard_of
+unfolding says with_room mapped heard_of
 never_full line None why e h room l = let said = l.said in let z : ◌≡◌ {A = ℕ} 0 1 = cc in omega arith
 never_full line (Some q) {before} why e h room l =
     let fits : length q.payload ≤ length before = omega (arith, payload_few line e h) in
@@ -92,40 +92,46 @@ never_full line (Some q) {before} why e h room l =
 
 -- ---- a line
 
-module _ (line : List ℕ) {before buffer : List ℕ} {r : ParsedLine} (l : LineRead (request_in line) before (line_says r) buffer) where
-  module _ {cluster n : ℕ} (is : r ≡ parsed.Request cluster n) where
-    there : Stands (request_in line) cluster n buffer
-    there = stands (request_in line) cluster n (rw is at l)
-
-    -- the payload stands in the buffer
-    pub payload_within : n ≤ length buffer
-    payload_within = there.within
-
-    pub payload_long : n ≡ length (take n buffer)
-    payload_long = sym (length-take-le n buffer payload_within)
-
-    -- and its request is answered
-    pub line_heard :
-        (t : BindingTable) {u : BindingTable} {out later : List ℕ} {told : Outcome ℕ}
-        → Tells (heard ours t (record { cluster = cluster; payload = take n buffer })) 261 out told u later
-        → Tells (said ours t (whole line)) 261 out told u later
-    unfolding said option
-    line_heard t h = rw there.is h
-
-  -- there is None
-  pub line_unheard :
-      {t : BindingTable} {out later : List ℕ} {told : Outcome ℕ}
-      → r ≡ parsed.Other
-      → Wrote (answer QUESTION) out told later
-      → Tells (said ours t (whole line)) 261 out told t later
-  unfolding said option unheard
-  line_unheard is w = rw (no_request (request_in line) (rw is at l)) (record { wrote = w; table = refl; short = omega arith })
-
-  -- that there is no room does not happen
-  pub line_refused :
-      {t : BindingTable} {out later : List ℕ} {told : Outcome ℕ} {why : Refusal}
-      → 2045 ≤ length before
+module _ (line : List ℕ) {before buffer : List ℕ} where
+  -- so what was read of it is told
+  not_refused :
+      {o : Option ParsedRequest} (r : Result (Option ParsedRequest) Refusal)
       → length line ≤ 4096
-      → r ≡ parsed.Refused why
-      → Tells (said ours t (whole line)) 261 out told t later
-  line_refused {why = why} room h is = absurd (never_full line (request_in line) why refl h room (rw is at l))
+      → 2045 ≤ length before
+      → LineRead (request_in line) before (says r) buffer
+      → o ≡ result_unwrap_or r None
+      → r ≡ Ok o
+  not_refused (Ok p) h room l u = rw u refl
+  not_refused (Err why) h room l u = absurd (never_full line (request_in line) why refl h room l)
+
+  module _ (r : Result (Option ParsedRequest) Refusal) {o : Option ParsedRequest} (l : LineRead (request_in line) before (says r) buffer) (h : length line ≤ 4096) (room : 2045 ≤ length before) (u : o ≡ result_unwrap_or r None) where
+    read : LineRead (request_in line) before (says (Ok o)) buffer
+    read = rw (not_refused r h room l u) at l
+
+    module _ {q : ParsedRequest} (is : o ≡ Some q) where
+      there : Stands (request_in line) q.cluster q.length buffer
+      there = stands (request_in line) q.cluster q.length (rw is at read)
+
+      -- the payload stands in the buffer
+      pub payload_within : q.length ≤ length buffer
+      payload_within = there.within
+
+      pub payload_long : q.length ≡ length (take q.length buffer)
+      payload_long = sym (length-take-le q.length buffer payload_within)
+
+      -- and its request is answered
+      pub line_heard :
+          (t : BindingTable) {v : BindingTable} {out later : List ℕ} {told : Outcome ℕ}
+          → Tells (heard ours t (record { cluster = q.cluster; payload = take q.length buffer })) 261 out told v later
+          → Tells (said ours t (whole line)) 261 out told v later
+      unfolding said option
+      line_heard t w = rw there.is w
+
+    -- there is None
+    pub line_unheard :
+        {t : BindingTable} {out later : List ℕ} {told : Outcome ℕ}
+        → o ≡ None
+        → Wrote (answer QUESTION) out told later
+        → Tells (said ours t (whole line)) 261 out told t later
+    unfolding said option unheard
+    line_unheard is w = rw (no_request (request_in line) (rw is at read)) (record { wrote = w; table = refl; short = omega arith })

@@ -1,8 +1,9 @@
 -- What the program `answer` writes for its lines (document 01, "Counter-cases").
-use Rattle.std.specs.Prelude.{ℕ, ◌+◌, ◌≤◌, ◌<◌, ◌≡◌, List, [], ◌∷◌, ◌++◌, length, take, set}
+use Rattle.std.specs.Prelude.{ℕ, ◌+◌, ◌≤◌, ◌<◌, ◌≡◌, List, [], ◌∷◌, ◌++◌, length, take, set, Result, Ok, Err}
 use Rattle.zigbee_types.specs.Lists.{option}
 use Rattle.zigbee_types.specs.Outcome.{Outcome, answer, refusal, mapped, Wrote}
 use Rattle.zigbee_types.specs.Refusals.{refusal_number}
+use Rattle.zigbee_types.specs.declared.Refusal.{Refusal}
 use Rattle.aps_binding_table.specs.Table.{empty_table}
 use Rattle.aps_binding_table.specs.declared.binding.BindingTable.{BindingTable}
 use Rattle.zdo_discovery.specs.Host.{Host}
@@ -101,10 +102,10 @@ answers input = session ours (empty_table LIMIT_NUMBER) (lines_within LINE_NUMBE
 -- ---- with a buffer for the text
 
 -- the text of what `dispatch` answers, where a reply's bytes stand at the front of its buffer
-unfoldable pub response_text : Response → List ℕ → List ℕ
-response_text (response.Reply cluster n) buffer = hex_line cluster (take n buffer)
-response_text (response.Leave q) buffer = LEAVE
-response_text (response.Refused why) buffer = refusal_text (refusal_number why)
+unfoldable pub response_text : Result Response Refusal → List ℕ → List ℕ
+response_text (Ok (response.Reply cluster n)) buffer = hex_line cluster (take n buffer)
+response_text (Ok (response.Leave q)) buffer = LEAVE
+response_text (Err why) buffer = refusal_text (refusal_number why)
 
 -- a text was told, and the buffer goes on behind it
 pub record Inside (told : Outcome ℕ) (buffer : List ℕ) : Type 0 where

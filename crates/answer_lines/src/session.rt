@@ -1,5 +1,5 @@
 // What the program `answer` writes for a line, at the end of its input, and turn by turn (document 01, "Counter-cases").
-ghost use Rattle.std.specs.Prelude.{ℕ, ◌≤◌, ◌≡◌, length, take, drop, replicate};
+ghost use Rattle.std.specs.Prelude.{ℕ, ◌≤◌, ◌≡◌, length, take, drop, replicate, Ok};
 ghost use Rattle.zigbee_types.specs.Answers.{says};
 ghost use Rattle.zigbee_types.specs.Outcome.{answer, Wrote};
 ghost use Rattle.zigbee_types.specs.Refusals.{refusal_number};
@@ -12,7 +12,7 @@ ghost use Rattle.answer_lines.specs.Turns.{new_session, taken_within, Turns, end
 
 use aps_binding_table::binding::BindingTable;
 use decimal::write_decimal;
-use hex_lines::{ParsedLine, parse_line, write_line};
+use hex_lines::{parse_line, write_line};
 use lines::splitter::{Found, Splitter};
 use our_device::our_response;
 use zdo_dispatcher::dispatcher::Response;
@@ -81,35 +81,30 @@ fn write_text(text: &[u8], out: &mut [u8]) -> Result<usize, Refusal>
     if out.len() < text.len() {
         return Err(Refusal::ShortBuffer);
     }
-    let mut i: usize = 0;
-    while i < text.len() {
-        out[i] = text[i];
-        i += 1;
-    }
-    Ok(i)
+    out[..text.len()].copy_from_slice(text);
+    Ok(text.len())
 }
 
 // Writes a refusal: `R` and its number.
 fn write_refusal(why: Refusal, out: &mut [u8]) -> Result<usize, Refusal>
     ensures { Wrote (answer (refusal_text (refusal_number why))) out.old (says result) out.new }
 {
-    if out.len() < 2 {
-        return Err(Refusal::ShortBuffer);
-    }
-    out[0] = b'R';
-    out[1] = b'0' + why.number();
-    Ok(2)
+    write_text(&[b'R', b'0' + why.number()], out)
 }
 
 // Writes what a request came to; of a reply, its bytes stand at the front of a buffer.
-fn write_response(response: Response, reply: &[u8], out: &mut [u8]) -> Result<usize, Refusal>
-    requires { (cluster n : ℕ) → response ≡ Response.Reply cluster n → n ≤ length reply.now }
+fn write_response(
+    response: Result<Response, Refusal>,
+    reply: &[u8],
+    out: &mut [u8],
+) -> Result<usize, Refusal>
+    requires { (cluster n : ℕ) → response ≡ Ok (Response.Reply cluster n) → n ≤ length reply.now }
     ensures { Wrote (answer (response_text response reply.now)) out.old (says result) out.new }
 {
     match response {
-        Response::Reply { cluster, length } => write_line(cluster, &reply[..length], out),
-        Response::Leave(_) => write_text(b"leave", out),
-        Response::Refused(why) => write_refusal(why, out),
+        Ok(Response::Reply { cluster, length }) => write_line(cluster, &reply[..length], out),
+        Ok(Response::Leave(_)) => write_text(b"leave", out),
+        Err(why) => write_refusal(why, out),
     }
 }
 
@@ -135,16 +130,10 @@ fn answer_line(table: BindingTable, line: &[u8], out: &mut [u8]) -> Answered
     ensures { Tells (said ours table (whole line.now)) 261 out.old (says result.written) result.table out.new }
 {
     let mut payload = [0u8; PAYLOAD];
-    let parsed = parse_line(line, &mut payload);
+    let parsed = parse_line(line, &mut payload).unwrap_or(None);
     match parsed {
-        ParsedLine::Request { cluster, length } => {
-            answer_request(table, cluster, &payload[..length], out)
-        }
-        ParsedLine::Other => Answered {
-            table,
-            written: write_text(b"?", out),
-        },
-        ParsedLine::Refused(_) => Answered {
+        Some(request) => answer_request(table, request.cluster, &payload[..request.length], out),
+        None => Answered {
             table,
             written: write_text(b"?", out),
         },
@@ -171,10 +160,7 @@ fn end_line(written: Result<usize, Refusal>, out: &mut [u8]) -> usize
 fn front(line: &[u8], count: usize) -> &[u8]
     ensures { result.now ≡ take count line.now }
 {
-    if count > line.len() {
-        return line;
-    }
-    &line[..count]
+    line.get(..count).unwrap_or(line)
 }
 
 // Answers what the splitter found: writes the answer to a line, or nothing where no line has ended.
@@ -210,12 +196,9 @@ fn write_count(count: usize, out: &mut [u8]) -> usize
     requires { 30 ≤ length out.old }
     ensures { Wrote (answer (count_text count)) out.old (answer result) out.new }
 {
-    write_text(b"bindings ", out);
+    let _ = write_text(b"bindings ", out);
     let digits = write_decimal(count as u64, &mut out[9..]);
-    match digits {
-        Ok(n) => 9 + n,
-        Err(_) => 9,
-    }
+    9 + digits.unwrap_or(0)
 }
 
 // The same, with the line feed.

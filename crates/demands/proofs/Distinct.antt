@@ -7,7 +7,7 @@ use Rattle.zigbee_types.specs.Lists.{any}
 use Rattle.aps_binding.specs.Entry.{same}
 use Rattle.aps_binding_table.specs.Held.{holds, without}
 use Rattle.aps_binding.specs.declared.binding.Binding.{Binding}
-use Rattle.aps_binding.proofs.Same.{same_sym}
+use Rattle.aps_binding.specs.Same.{same_sym}
 use Rattle.aps_binding_table.proofs.Holds.{holds_like, not_first, holds_last, holds_other}
 use Rattle.demands.specs.Reached.{distinct}
 

@@ -1,5 +1,5 @@
 -- Each answer or refusal comes back from what it says. Assumes nothing.
-use Rattle.std.specs.Prelude.{Result, Ok, Err}
+use Rattle.std.specs.Prelude.{Result, Ok, Err, ⊤}
 use Prim.Native.Nat.{ℕ}
 use mathlib.Core.Path.{◌≡◌, refl, sym, ◌∙◌}
 use mathlib.Core.Bool.{cond}
@@ -23,7 +23,7 @@ unfolding says
 one_says A = determined says Ok Err (elim [ Ok a ↦ refl | Err why ↦ refused_back Err why ])
 
 -- the answer that tells a status
-abbrev link_of : ℕ → Result Unit BindingError
+abbrev link_of : ℕ → Result ⊤ BindingError
 link_of status = cond (eqb status SUCCESS) (Ok tt) (Err (cond (eqb status NO_ENTRY) error.InvalidBinding error.TableFull))
 
 one_link : Determines link_says

@@ -1,6 +1,6 @@
 -- Cases of the binding table: equality, what single calls tell and leave, what sequences leave, and what they count. What the definitions say stands
 -- on one side, and literals on the other (`Case`).
-use Rattle.std.specs.Prelude.{ℕ, List, [], ◌∷◌, ◌++◌, map, take, drop}
+use Rattle.std.specs.Prelude.{ℕ, List, [], ◌∷◌, ◌++◌, map, take, drop, Ok, Err}
 use Rattle.zigbee_types.specs.Bytes.{bit}
 use Rattle.zigbee_types.specs.Outcome.{Outcome, answer, refusal, mapped}
 use Rattle.zigbee_types.specs.Addresses.{ieee_of, group_of}
@@ -11,7 +11,7 @@ use Rattle.aps_binding_table.specs.Table.{empty_table, create_binding_link, remo
 use Rattle.aps_binding_table.specs.Answers.{link_says}
 use Rattle.aps_binding.specs.declared.binding.Binding.{Binding}
 use Rattle.aps_binding_table.specs.declared.binding.BindingTable.{BindingTable}
-use Rattle.aps_binding_table.specs.declared.binding.LinkStatus.TheVariants as link
+use Rattle.aps_binding_table.specs.declared.binding.BindingError.TheVariants.{InvalidBinding, TableFull, Refused}
 use Rattle.demands.specs.Calls.{Call, bind, unbind, next, after}
 use Rattle.demands.specs.Runs.{how_many}
 use Rattle.demands.specs.History.{adds, removes}
@@ -65,7 +65,7 @@ Formed =
 unfoldable pub LinkStatuses : Case
 LinkStatuses =
     record {
-      says = map (λ l. mapped (λ n. n ∷ []) (link_says l)) (link.Success ∷ link.InvalidBinding ∷ link.TableFull ∷ link.Refused BadTables ∷ []);
+      says = map (λ l. mapped (λ n. n ∷ []) (link_says l)) (Ok tt ∷ Err InvalidBinding ∷ Err TableFull ∷ Err (Refused BadTables) ∷ []);
       expected = answer (0x00 ∷ []) ∷ answer (0x88 ∷ []) ∷ answer (0x8C ∷ []) ∷ refusal 1 ∷ [];
     }
 

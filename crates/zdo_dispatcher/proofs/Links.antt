@@ -1,5 +1,5 @@
 -- Bind and unbind: whether the source is ours, and what the table then does. Assumes nothing.
-use Rattle.std.specs.Prelude.{Result, Ok, Err}
+use Rattle.std.specs.Prelude.{Result, Ok, Err, ⊤}
 use Prim.Native.Nat.{ℕ, ◌≤◌, ◌<◌}
 use mathlib.Core.Path.{◌≡◌, refl, ◌∙◌}
 use mathlib.Core.Bool.{Bool, true, false, not}
@@ -67,7 +67,7 @@ module _ (l : Link) (t : BindingTable) (b : Binding) {u : BindingTable} {told : 
 
 -- ---- the status that is told
 
-module _ (seq : ℕ) (s : Result Unit BindingError) {before after : List ℕ} {told : Outcome ℕ} where
+module _ (seq : ℕ) (s : Result ⊤ BindingError) {before after : List ℕ} {told : Outcome ℕ} where
   pub tells_success : s ≡ Ok tt → Wrote (status_rsp seq SUCCESS) before told after → Wrote (and_then (link_says s) (status_rsp seq)) before told after
   unfolding link_says and_then
   tells_success e w = rw e w
@@ -81,7 +81,7 @@ module _ (seq : ℕ) (s : Result Unit BindingError) {before after : List ℕ} {t
   tells_full e w = rw e w
 
 pub tells_refused :
-    (seq : ℕ) (s : Result Unit BindingError) (why : Refusal) (before : List ℕ)
+    (seq : ℕ) (s : Result ⊤ BindingError) (why : Refusal) (before : List ℕ)
     → s ≡ Err (error.Refused why)
     → Wrote (and_then (link_says s) (status_rsp seq)) before (says (Err why)) before
 unfolding link_says and_then says

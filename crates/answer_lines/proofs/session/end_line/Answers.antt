@@ -11,8 +11,8 @@ bounds-out-n c = search laws
 pub overflow_add-result : goal.overflow_add-result
 overflow_add-result c = search laws
 
-pub returns-in-Length : goal.returns-in-Length
-returns-in-Length c = search laws
+pub returns-in-Ok : goal.returns-in-Ok
+returns-in-Ok c = search laws
 
-pub returns-in-Refused : goal.returns-in-Refused
-returns-in-Refused c = search laws
+pub returns-in-Err : goal.returns-in-Err
+returns-in-Err c = search laws

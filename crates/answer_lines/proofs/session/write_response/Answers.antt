@@ -1,15 +1,16 @@
 -- `write_response` meets its contract, for each answer. Assumes nothing.
 use borrow.Author.Rules.{rules}
-use Rattle.answer_lines.proofs.Heard.{text_reply, text_leave, text_refused, reply_front}
+use Rattle.answer_lines.specs.Session.{response_text}
 use Rattle.answer_lines.proofs.session.write_response.Goals as goal
 
-ruleset laws = (rules, text_reply, text_leave, text_refused, reply_front)
+pub returns-in-Ok-Reply : goal.returns-in-Ok-Reply
+unfolding response_text
+returns-in-Ok-Reply c = search rules
 
-pub returns-in-Reply : goal.returns-in-Reply
-returns-in-Reply c = search laws
+pub returns-in-Ok-Leave : goal.returns-in-Ok-Leave
+unfolding response_text
+returns-in-Ok-Leave c = search rules
 
-pub returns-in-Leave : goal.returns-in-Leave
-returns-in-Leave c = search laws
-
-pub returns-in-Refused : goal.returns-in-Refused
-returns-in-Refused c = search laws
+pub returns-in-Err : goal.returns-in-Err
+unfolding response_text
+returns-in-Err c = search rules

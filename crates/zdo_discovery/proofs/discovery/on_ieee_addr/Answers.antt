@@ -4,13 +4,13 @@ use Rattle.zigbee_types.proofs.Passed.{went_on, passed_wrote}
 use Rattle.zdo_discovery.proofs.Handled.{ieee_ours, ieee_other}
 use Rattle.zdo_discovery.proofs.discovery.on_ieee_addr.Goals as goal
 
-ruleset laws = (rules, went_on, passed_wrote, ieee_ours, ieee_other)
+ruleset laws = (rules, ieee_ours, ieee_other)
 
 pub returns-then-asked-nwk_addr : goal.returns-then-asked-nwk_addr
-returns-then-asked-nwk_addr c = search laws
+returns-then-asked-nwk_addr c = went_on _ _ _ _ c.in_ok-request.ensures (search laws)
 
 pub returns : goal.returns
-returns c = search laws
+returns c = went_on _ _ _ _ c.in_ok-request.ensures (search laws)
 
 pub returns-in_err-request : goal.returns-in_err-request
-returns-in_err-request c = search laws
+returns-in_err-request c = passed_wrote _ _ _ _ c.in_err-request.ensures c.from_residual.ensures

@@ -5,16 +5,15 @@ use Rattle.zigbee_types.proofs.Passed.{went_on, passed_wrote}
 use Rattle.zdo_discovery.proofs.Handled.{about_ours, about_other}
 use Rattle.zdo_discovery.proofs.discovery.on_simple.Goals as goal
 
-ruleset laws = (rules, went_on, passed_wrote, about_ours, about_other)
+ruleset laws = (rules, about_ours, about_other)
 
 pub returns-then-asked-nwk_addr : goal.returns-then-asked-nwk_addr
 unfolding on_simple
-returns-then-asked-nwk_addr c = search laws
+returns-then-asked-nwk_addr c = went_on _ _ _ _ c.in_ok-request.ensures (search laws)
 
 pub returns : goal.returns
 unfolding on_simple
-returns c = search laws
+returns c = went_on _ _ _ _ c.in_ok-request.ensures (search laws)
 
 pub returns-in_err-request : goal.returns-in_err-request
-unfolding on_simple
-returns-in_err-request c = search laws
+returns-in_err-request c = passed_wrote _ _ _ _ c.in_err-request.ensures c.from_residual.ensures
