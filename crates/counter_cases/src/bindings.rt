@@ -84,7 +84,8 @@ fn bind(rt: &impl Print, table: BindingTable, letter: u8) -> io::Result<BindingT
     told(rt, create_binding_link(table, entry(letter)))
 }
 
-// Unbinds the entry of a letter, and prints the status.
+// Unbinds the entry of a letter, and prints the status. (It stands beside `bind`: one function of both would name the library's function
+// again at each call.)
 fn unbind(rt: &impl Print, table: BindingTable, letter: u8) -> io::Result<BindingTable> {
     told(rt, remove_binding_link(table, entry(letter)))
 }

@@ -57,7 +57,7 @@ pub(crate) fn bind_a(rt: &impl Print, name: &str, table: BindingTable) -> io::Re
     print_link(rt, table, ask(name, 0x0021, &k10_request(0x08, 0x01), 4))
 }
 
-// Lines for an unbind of A.
+// Lines for an unbind of A. (It stands beside `bind_a`: one function of both would name the cluster again at each call.)
 fn unbind_a(rt: &impl Print, name: &str, table: BindingTable) -> io::Result<BindingTable> {
     print_link(rt, table, ask(name, 0x0022, &k10_request(0x08, 0x01), 4))
 }
