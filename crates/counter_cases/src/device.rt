@@ -7,12 +7,12 @@ use crate::{descriptors, print};
 use std::io;
 use zdo_device::descriptor::{DeviceDescriptorConfig, EndpointDescriptor, Side};
 use zdo_device_rsp::descriptor::{active_ep_rsp, simple_desc_rsp};
-use zigbee_types::ShortAddress;
+use zigbee_types::{Refusal, ShortAddress};
 
 // Our pools: the clusters of endpoint 1, and then those of endpoint 2.
-pub(crate) const INPUTS: [u16; 4] = [0x0000, 0x0402, 0x0000, 0x0500];
+const INPUTS: [u16; 4] = [0x0000, 0x0402, 0x0000, 0x0500];
 
-pub(crate) const OUTPUTS: [u16; 1] = [0x0019];
+const OUTPUTS: [u16; 1] = [0x0019];
 
 // Our two endpoints.
 pub(crate) const ENDPOINT_1: EndpointDescriptor = EndpointDescriptor {
@@ -49,194 +49,168 @@ const AGAIN: EndpointDescriptor = EndpointDescriptor {
     output_count: 0,
 };
 
-// Our device, with this count of records. In the other places stands the record that has number 1 again.
-pub(crate) fn our_device(count: usize) -> DeviceDescriptorConfig {
-    let node = descriptors::our_node();
-    let power = descriptors::our_power();
+// A device with its pools.
+#[derive(Clone, Copy)]
+pub(crate) struct Tables<'a> {
+    pub(crate) device: DeviceDescriptorConfig,
+    pub(crate) inputs: &'a [u16],
+    pub(crate) outputs: &'a [u16],
+}
+
+impl<'a> Tables<'a> {
+    // The same with another pool of inputs.
+    pub(crate) fn with_inputs(self, inputs: &'a [u16]) -> Tables<'a> {
+        Tables { inputs, ..self }
+    }
+
+    // The same with another pool of outputs.
+    pub(crate) fn with_outputs(self, outputs: &'a [u16]) -> Tables<'a> {
+        Tables { outputs, ..self }
+    }
+
+    // Writes the simple reply of an endpoint number.
+    fn simple_reply(self, number: u8, out: &mut [u8]) -> Result<usize, Refusal> {
+        let short = ShortAddress(0x1234);
+        simple_desc_rsp(
+            self.device,
+            7,
+            short,
+            number,
+            self.inputs,
+            self.outputs,
+            out,
+        )
+    }
+}
+
+// Our device with our pools, and with this count of records. In the other places stands the record that has number 1 again.
+pub(crate) fn ours<'a>(count: usize) -> Tables<'a> {
     let mut endpoints = [AGAIN; 32];
     endpoints[0] = ENDPOINT_1;
     endpoints[1] = ENDPOINT_2;
-    DeviceDescriptorConfig {
-        node,
-        power,
+    let device = DeviceDescriptorConfig {
+        node: descriptors::our_node(),
+        power: descriptors::our_power(),
         endpoints,
         endpoint_count: count,
+    };
+    Tables {
+        device,
+        inputs: &INPUTS,
+        outputs: &OUTPUTS,
     }
+}
+
+// A device of one endpoint, which is our endpoint 1 but for its number of inputs.
+pub(crate) fn of_inputs<'a>(count: u16) -> Tables<'a> {
+    let mut tables = ours(1);
+    tables.device.endpoints[0].input_count = count;
+    tables
 }
 
 // The simple replies of endpoint 1, of endpoint 2, and of a number that no record in use has, at last with a bad pool.
 pub(crate) fn k5(rt: &impl Print) -> io::Result<()> {
-    three_rooms(rt, b"K5 reply", 1, 19)?;
-    print_our_simple(rt, b"simple reply of 2", 2, 17)?;
-    three_rooms(rt, b"simple reply of 3", 3, 5)?;
-    let device = our_device(2);
-    print_simple(rt, b"of 3, short outputs", device, 3, &INPUTS, &[], 4)
-}
-
-// Lines for the simple reply of our device: in a buffer with two bytes to spare, in one of the reply's length, and in one of a byte
-// less.
-fn three_rooms(rt: &impl Print, name: &[u8], number: u8, length: usize) -> io::Result<()>
-    requires { (1 ≤ length) × (length ≤ 69) }
-{
-    print_our_simple(rt, name, number, length + 2)?;
-    print_our_simple(rt, name, number, length)?;
-    print_our_simple(rt, name, number, length - 1)
-}
-
-// A line for the simple reply of our device.
-fn print_our_simple(rt: &impl Print, name: &[u8], number: u8, room: usize) -> io::Result<()>
-    requires { room ≤ 71 }
-{
-    print_simple(rt, name, our_device(2), number, &INPUTS, &OUTPUTS, room)
+    let ours = ours(2);
+    print::in_three_rooms(rt, "K5 reply", 19, |out| ours.simple_reply(1, out))?;
+    print_simple(rt, "simple reply of 2", ours, 2, 17)?;
+    print::in_three_rooms(rt, "simple reply of 3", 5, |out| ours.simple_reply(3, out))?;
+    print_simple(rt, "of 3, short outputs", ours.with_outputs(&[]), 3, 4)
 }
 
 // The simple replies of 27 inputs and an output, and of an input more: for this there is room, there is not, and its pool is too
 // short as well.
 pub(crate) fn k6(rt: &impl Print) -> io::Result<()> {
-    print_28(rt, 70)?;
-    print_28(rt, 69)?;
-    print_28(rt, 68)?;
-    print_zeros(rt, b"K6 reply of 29", 28, 71)?;
-    print_zeros(rt, b"K6 reply of 29", 28, 4)?;
-    let device = device_of_inputs(28);
-    print_simple(rt, b"K6 short pool", device, 1, &[0; 27], &OUTPUTS, 4)
-}
-
-// A line for the simple reply of 28 clusters.
-fn print_28(rt: &impl Print, room: usize) -> io::Result<()>
-    requires { room ≤ 71 }
-{
-    print_zeros(rt, b"K6 reply of 28", 27, room)
-}
-
-// A line for the simple reply of so many inputs, of a pool of 28 zeros, and an output.
-fn print_zeros(rt: &impl Print, name: &[u8], count: u16, room: usize) -> io::Result<()>
-    requires { room ≤ 71 }
-{
-    let device = device_of_inputs(count);
-    print_simple(rt, name, device, 1, &[0; 28], &OUTPUTS, room)
-}
-
-// A device of one endpoint, which is our endpoint 1 but for its number of inputs.
-pub(crate) fn device_of_inputs(count: u16) -> DeviceDescriptorConfig {
-    let mut first = ENDPOINT_1;
-    let mut device = our_device(1);
-    first.input_count = count;
-    device.endpoints[0] = first;
-    device
+    let of_28 = of_inputs(27).with_inputs(&[0; 28]);
+    print_simple(rt, "K6 reply of 28", of_28, 1, 70)?;
+    print_simple(rt, "K6 reply of 28", of_28, 1, 69)?;
+    print_simple(rt, "K6 reply of 28", of_28, 1, 68)?;
+    let of_29 = of_inputs(28).with_inputs(&[0; 28]);
+    print_simple(rt, "K6 reply of 29", of_29, 1, 71)?;
+    print_simple(rt, "K6 reply of 29", of_29, 1, 4)?;
+    print_simple(rt, "K6 short pool", of_29.with_inputs(&[0; 27]), 1, 4)
 }
 
 // Our endpoints, and a number that we have not; endpoint 2 where one record is in use; a number that none of the 32 records has,
 // where the count says that there are more; and the active replies of our device and of one without records.
 pub(crate) fn others(rt: &impl Print) -> io::Result<()> {
-    print_our_endpoint(rt, b"our", 2, 1)?;
-    print_our_endpoint(rt, b"our", 2, 2)?;
-    print_our_endpoint(rt, b"our", 2, 3)?;
-    print_our_endpoint(rt, b"unused", 1, 2)?;
-    print_our_endpoint(rt, b"largest count", 0xFFFFFFFFFFFFFFFF, 3)?;
+    print_endpoint(rt, "our", ours(2), 1)?;
+    print_endpoint(rt, "our", ours(2), 2)?;
+    print_endpoint(rt, "our", ours(2), 3)?;
+    print_endpoint(rt, "unused", ours(1), 2)?;
+    print_endpoint(rt, "largest count", ours(usize::MAX), 3)?;
     active_replies(rt)
-}
-
-// A line for an endpoint number of our device, with so many records in use.
-fn print_our_endpoint(rt: &impl Print, name: &[u8], count: usize, number: u8) -> io::Result<()> {
-    print_endpoint(rt, name, our_device(count), number, &INPUTS, &OUTPUTS)
 }
 
 // The active replies of our device, in three buffers, and of one without records.
 fn active_replies(rt: &impl Print) -> io::Result<()> {
-    let device = our_device(2);
-    print_active(rt, b"active reply", device, 9)?;
-    print_active(rt, b"active reply", device, 7)?;
-    print_active(rt, b"active reply", device, 6)?;
-    print_active(rt, b"empty active reply", our_device(0), 5)
+    print_active(rt, "active reply", ours(2), 9)?;
+    print_active(rt, "active reply", ours(2), 7)?;
+    print_active(rt, "active reply", ours(2), 6)?;
+    print_active(rt, "empty active reply", ours(0), 5)
 }
 
 // A line for an endpoint number: whether it is supported, all fields of its record, and its part of either pool.
 pub(crate) fn print_endpoint<'a>(
     rt: &impl Print,
-    name: &[u8],
-    device: DeviceDescriptorConfig,
+    name: &str,
+    tables: Tables<'a>,
     number: u8,
-    inputs: &'a [u16],
-    outputs: &'a [u16],
 ) -> io::Result<()> {
-    print::text(rt, name)?;
-    print::text(rt, b" endpoint")?;
-    print::byte(rt, number)?;
-    print::decimal(rt, device.supports_endpoint(number) as usize)?;
-    print_found(rt, device.endpoint(number))?;
-    print::text(rt, b" inputs")?;
-    print::words(
-        rt,
-        device.endpoint_clusters(Side::Input, number, inputs, outputs),
-    )?;
-    print::text(rt, b" outputs")?;
-    print::words(
-        rt,
-        device.endpoint_clusters(Side::Output, number, inputs, outputs),
-    )?;
-    print::end_line(rt)
-}
-
-// All fields of a record, if one was found.
-fn print_found(rt: &impl Print, found: Option<EndpointDescriptor>) -> io::Result<()> {
-    match found {
-        Some(record) => print_record(rt, record),
-        None => print::text(rt, b" none"),
-    }
+    let Tables {
+        device,
+        inputs,
+        outputs,
+    } = tables;
+    let supported = device.supports_endpoint(number) as u8;
+    print!(rt; "{name} endpoint {number:02x} {supported}")?;
+    print::or_none(rt, device.endpoint(number), |record| {
+        print_record(rt, record)
+    })?;
+    println!(rt;
+        " inputs{} outputs{}",
+        print::words(device.endpoint_clusters(Side::Input, number, inputs, outputs)),
+        print::words(device.endpoint_clusters(Side::Output, number, inputs, outputs))
+    )
 }
 
 // All fields of a record.
 fn print_record(rt: &impl Print, record: EndpointDescriptor) -> io::Result<()> {
-    print::byte(rt, record.endpoint)?;
-    print::byte(rt, record.device_version)?;
-    print::word(rt, record.profile_id)?;
-    print::word(rt, record.device_id)?;
-    print::decimal(rt, record.input_start as usize)?;
-    print::decimal(rt, record.input_count as usize)?;
-    print::decimal(rt, record.output_start as usize)?;
-    print::decimal(rt, record.output_count as usize)
+    print!(rt;
+        " {:02x} {:02x} {:04x} {:04x} {} {} {} {}",
+        record.endpoint,
+        record.device_version,
+        record.profile_id,
+        record.device_id,
+        record.input_start,
+        record.input_count,
+        record.output_start,
+        record.output_count
+    )
 }
 
 // A line for the active reply in a buffer of so many bytes.
-pub(crate) fn print_active(
+pub(crate) fn print_active<'a>(
     rt: &impl Print,
-    name: &[u8],
-    device: DeviceDescriptorConfig,
+    name: &str,
+    tables: Tables<'a>,
     room: usize,
 ) -> io::Result<()>
-    requires { room ≤ 9 }
+    requires { room ≤ 71 }
 {
-    print::room(rt, name, room)?;
-    let mut out = [0xEEu8; 9];
-    let buffer = &mut out[0..room];
-    let written = active_ep_rsp(device, 7, ShortAddress(0x1234), buffer);
-    print::written(rt, written, buffer)
+    print::in_room(rt, name, room, |out| {
+        active_ep_rsp(tables.device, 7, ShortAddress(0x1234), out)
+    })
 }
 
 // A line for the simple reply of an endpoint number in a buffer of so many bytes.
 pub(crate) fn print_simple<'a>(
     rt: &impl Print,
-    name: &[u8],
-    device: DeviceDescriptorConfig,
+    name: &str,
+    tables: Tables<'a>,
     number: u8,
-    inputs: &'a [u16],
-    outputs: &'a [u16],
     room: usize,
 ) -> io::Result<()>
     requires { room ≤ 71 }
 {
-    print::room(rt, name, room)?;
-    let mut out = [0xEEu8; 71];
-    let buffer = &mut out[0..room];
-    let written = simple_desc_rsp(
-        device,
-        7,
-        ShortAddress(0x1234),
-        number,
-        inputs,
-        outputs,
-        buffer,
-    );
-    print::written(rt, written, buffer)
+    print::in_room(rt, name, room, |out| tables.simple_reply(number, out))
 }

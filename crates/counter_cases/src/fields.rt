@@ -49,21 +49,16 @@ pub(crate) fn k10(rt: &impl Print) -> io::Result<()> {
         0x0A, 0x08, 0x07, 0x06, 0x05, 0x04, 0x03, 0x02, 0x01, 0x01, 0x02, 0x04, 0x01, 0x03, 0x00,
     ];
     let fields = fields_of(&request);
-    print::text(rt, b"K10 fields")?;
-    print::byte(rt, fields.seq)?;
-    print::hex(rt, fields.src_address.0, 16)?;
-    print::byte(rt, fields.src_endpoint)?;
-    print::word(rt, fields.cluster_id)?;
-    print::byte(rt, fields.dst_addr_mode)?;
-    print::word(rt, fields.dst_group.0)?;
+    println!(rt;
+        "K10 fields {:02x} {:016x} {:02x} {:04x} {:02x} {:04x}",
+        fields.seq,
+        fields.src_address.0,
+        fields.src_endpoint,
+        fields.cluster_id,
+        fields.dst_addr_mode,
+        fields.dst_group.0
+    )?;
     let mut out = [0xEEu8; 16];
     put(fields, &mut out);
-    print::text(rt, b"\nK10 bytes")?;
-    print_buffer(rt, &out)?;
-    print::end_line(rt)
-}
-
-// Lends the array as a slice, for which its length must be known.
-fn print_buffer(rt: &impl Print, buffer: &[u8; 16]) -> io::Result<()> {
-    print::bytes(rt, buffer)
+    println!(rt; "K10 bytes{}", print::bytes(&out))
 }

@@ -1,90 +1,150 @@
 // Printing, to the standard output.
-use std::io;
+ghost use Rattle.std.specs.Prelude.{◌≤◌, length};
+
+use std::{fmt, io};
 use zigbee_types::Refusal;
 
-// Characters as they are.
-pub(crate) fn text(rt: &impl Print, characters: &[u8]) -> io::Result<()> {
-    rt.write_all(characters)
+// Numbers in hexadecimal, each of so many digits and with a space before it.
+#[derive(Clone, Copy)]
+pub(crate) struct Hex<'a, N> {
+    numbers: &'a [N],
+    digits: usize,
 }
 
-// The end of a line.
-pub(crate) fn end_line(rt: &impl Print) -> io::Result<()> {
-    text(rt, b"\n")
-}
-
-// A name, and how much room a buffer has.
-pub(crate) fn room(rt: &impl Print, name: &[u8], room: usize) -> io::Result<()> {
-    text(rt, name)?;
-    text(rt, b" room")?;
-    decimal(rt, room)
-}
-
-// A name, a request by its cluster and payload, and how much room a buffer has.
-pub(crate) fn asked(
-    rt: &impl Print,
-    name: &[u8],
-    cluster: u16,
-    payload: &[u8],
-    space: usize,
-) -> io::Result<()> {
-    text(rt, name)?;
-    word(rt, cluster)?;
-    bytes(rt, payload)?;
-    room(rt, b"", space)
-}
-
-// A number of so many hexadecimal digits, with a space before it.
-pub(crate) fn hex(rt: &impl Print, n: u64, digits: usize) -> io::Result<()> {
-    print!(rt; " {n:0digits$x}")
-}
-
-// A number in decimal, with a space before it.
-pub(crate) fn decimal(rt: &impl Print, n: usize) -> io::Result<()> {
-    print!(rt; " {n}")
-}
-
-// A byte in hexadecimal, with a space before it.
-pub(crate) fn byte(rt: &impl Print, byte: u8) -> io::Result<()> {
-    hex(rt, byte as u64, 2)
-}
-
-// A number of two bytes in hexadecimal, with a space before it.
-pub(crate) fn word(rt: &impl Print, n: u16) -> io::Result<()> {
-    hex(rt, n as u64, 4)
-}
-
-// Bytes in hexadecimal, with a space before each.
-pub(crate) fn bytes(rt: &impl Print, bytes: &[u8]) -> io::Result<()> {
-    let mut i: usize = 0;
-    while i < bytes.len() {
-        byte(rt, bytes[i])?;
-        i += 1;
+impl<'a, N: Into<u64> + Copy> fmt::Display for Hex<'a, N> {
+    fn fmt<W: fmt::Write>(&self, f: &mut fmt::Formatter<W>) -> fmt::Result {
+        let digits = self.digits;
+        for &number in self.numbers {
+            let n: u64 = number.into();
+            write!(f, " {n:0digits$x}")?;
+        }
+        Ok(())
     }
-    Ok(())
 }
 
-// Numbers of two bytes in hexadecimal, with a space before each.
-pub(crate) fn words(rt: &impl Print, words: &[u16]) -> io::Result<()> {
-    let mut i: usize = 0;
-    while i < words.len() {
-        word(rt, words[i])?;
-        i += 1;
-    }
-    Ok(())
+// Bytes in hexadecimal.
+pub(crate) fn bytes(numbers: &[u8]) -> Hex<u8> {
+    Hex { numbers, digits: 2 }
+}
+
+// Numbers of two bytes in hexadecimal.
+pub(crate) fn words(numbers: &[u16]) -> Hex<u16> {
+    Hex { numbers, digits: 4 }
 }
 
 // A refusal: `R` and its number, with a space before them.
 pub(crate) fn refusal(rt: &impl Print, why: Refusal) -> io::Result<()> {
-    let number = why.number();
-    print!(rt; " R{number}")
+    print!(rt; " R{}", u8::from(why))
+}
+
+// What a call gave, printed so, or the refusal.
+pub(crate) fn or_refusal<T, F: FnOnce(T) -> io::Result<()>>(
+    rt: &impl Print,
+    given: Result<T, Refusal>,
+    print: F,
+) -> io::Result<()>
+    requires { F.IsAlwaysCallable print }
+{
+    match given {
+        Ok(value) => print(value),
+        Err(why) => refusal(rt, why),
+    }
+}
+
+// What is there, printed so, or that there is nothing.
+pub(crate) fn or_none<T, F: FnOnce(T) -> io::Result<()>>(
+    rt: &impl Print,
+    there: Option<T>,
+    print: F,
+) -> io::Result<()>
+    requires { F.IsAlwaysCallable print }
+{
+    match there {
+        Some(value) => print(value),
+        None => print!(rt; " none"),
+    }
 }
 
 // How many bytes a writer wrote, or why it wrote none, and all of the buffer then. Ends the line.
-pub(crate) fn written(rt: &impl Print, written: Result<usize, Refusal>, buffer: &[u8]) -> io::Result<()> {
-    match written {
-        Ok(count) => decimal(rt, count)?,
-        Err(why) => refusal(rt, why)?,
-    }
-    bytes(rt, buffer)?;
-    end_line(rt)
+pub(crate) fn written(
+    rt: &impl Print,
+    written: Result<usize, Refusal>,
+    buffer: &[u8],
+) -> io::Result<()> {
+    or_refusal(rt, written, |count| print!(rt; " {count}"))?;
+    println!(rt; "{}", bytes(buffer))
+}
+
+// What a writer makes of a buffer of so many bytes, which held 0xEE before. Ends the line.
+pub(crate) fn in_buffer<F: FnOnce(&mut [u8]) -> Result<usize, Refusal>>(
+    rt: &impl Print,
+    room: usize,
+    write: F,
+) -> io::Result<()>
+    requires fits { room ≤ 71 }
+    requires callable { F.IsAlwaysCallable write }
+{
+    let mut out = [0xEEu8; 71];
+    let buffer = &mut out[0..room];
+    let count = write(buffer);
+    written(rt, count, buffer)
+}
+
+// A line with a name, how much room a buffer has, and what a writer makes of it.
+pub(crate) fn in_room<F: FnOnce(&mut [u8]) -> Result<usize, Refusal>>(
+    rt: &impl Print,
+    name: &str,
+    room: usize,
+    write: F,
+) -> io::Result<()>
+    requires fits { room ≤ 71 }
+    requires callable { F.IsAlwaysCallable write }
+{
+    print!(rt; "{name} room {room}")?;
+    in_buffer(rt, room, write)
+}
+
+// Lines for a buffer with two bytes to spare, for one of so many bytes, and for one of a byte less.
+pub(crate) fn in_three_rooms<F: Fn(&mut [u8]) -> Result<usize, Refusal>>(
+    rt: &impl Print,
+    name: &str,
+    length: usize,
+    write: F,
+) -> io::Result<()>
+    requires fits { (1 ≤ length) × (length ≤ 69) }
+    requires callable { F.IsAlwaysCallable write }
+{
+    in_room(rt, name, length + 2, &write)?;
+    in_room(rt, name, length, &write)?;
+    in_room(rt, name, length - 1, &write)
+}
+
+// A line with a name, how many bytes there are, and what a reader prints of them.
+pub(crate) fn of_bytes<P: Print, F: Fn(&P, &[u8]) -> io::Result<()>>(
+    rt: &P,
+    name: &str,
+    print: F,
+    bytes: &[u8],
+) -> io::Result<()>
+    requires { F.IsAlwaysCallable print }
+{
+    print!(rt; "{name} length {}", bytes.len())?;
+    print(rt, bytes)?;
+    println!(rt)
+}
+
+// Lines for all bytes, for so many of them, and for one less.
+pub(crate) fn of_three_lengths<P: Print, F: Fn(&P, &[u8]) -> io::Result<()>>(
+    rt: &P,
+    name: &str,
+    print: F,
+    bytes: &[u8],
+    shortest: usize,
+) -> io::Result<()>
+    requires callable { F.IsAlwaysCallable print }
+    requires within { (1 ≤ shortest) × (shortest ≤ length bytes.now) }
+{
+    of_bytes(rt, name, &print, bytes)?;
+    of_bytes(rt, name, &print, &bytes[..shortest])?;
+    of_bytes(rt, name, &print, &bytes[..shortest - 1])
 }

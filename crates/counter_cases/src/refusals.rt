@@ -2,7 +2,8 @@
 // are those of the module `dispatcher`.
 ghost use Rattle.std.specs.Prelude.{◌≤◌};
 
-use crate::{bindings, device, dispatcher, print};
+use crate::dispatcher::{ask, bind_a, print_answer, print_link};
+use crate::{bindings, device};
 use aps_binding_table::binding::BindingTable;
 use std::io;
 
@@ -18,31 +19,31 @@ pub(crate) fn in_order(rt: &impl Print) -> io::Result<()> {
 
 // Refusal 1: too many records, with an unknown cluster and with a leave, which looks at none; and a record past its pool.
 fn bad_devices(rt: &impl Print) -> io::Result<()> {
-    let name: &[u8] = b"bad device";
-    dispatcher::print_nwk(rt, name, device::our_device(33), 0x0033, 0, 0, 0, 0)?;
-    dispatcher::print_nwk(rt, name, device::our_device(33), 0x0034, 0, 0, 0, 0)?;
-    dispatcher::print_nwk(rt, name, device::device_of_inputs(5), 0x0033, 0, 0, 0, 0)
+    let name = "bad device";
+    print_answer(rt, device::ours(33), ask(name, 0x0033, b"", 0))?;
+    print_answer(rt, device::ours(33), ask(name, 0x0034, b"", 0))?;
+    print_answer(rt, device::of_inputs(5), ask(name, 0x0033, b"", 0))
 }
 
 // Refusal 1: a limit that is too high, and a count above its limit, with an unknown cluster; this with a node request too, which does
 // not look at bindings, and with a bind.
 fn bad_bindings(rt: &impl Print) -> io::Result<()> {
-    let name: &[u8] = b"bad bindings";
-    let table = bindings::table_of(1, 2, b'A', b'B', b'-');
-    dispatcher::print_source(rt, name, BindingTable::new(33), 0x0033, 0x08, 0x01, 0, 0)?;
-    dispatcher::print_source(rt, name, table, 0x0033, 0x08, 0x01, 0, 0)?;
-    dispatcher::print_source(rt, name, table, 0x0002, 0x08, 0x01, 3, 4)?;
-    dispatcher::bind_a(rt, name, table)?;
+    let name = "bad bindings";
+    let table = bindings::table_of(1, 2, b"AB-");
+    print_link(rt, BindingTable::new(33), ask(name, 0x0033, b"", 0))?;
+    print_link(rt, table, ask(name, 0x0033, b"", 0))?;
+    print_link(rt, table, ask(name, 0x0002, b"\x0A\x08\x07", 4))?;
+    bind_a(rt, name, table)?;
     Ok(())
 }
 
 // Refusal 2: a cluster of no request, and a reply's; the first also without payload and buffer.
 fn unknown_clusters(rt: &impl Print) -> io::Result<()> {
-    let name: &[u8] = b"unknown cluster";
-    let device = device::our_device(2);
-    dispatcher::print_nwk(rt, name, device, 0x0033, 0x1234, 0, 3, 4)?;
-    dispatcher::print_nwk(rt, name, device, 0x8005, 0x1234, 0, 3, 4)?;
-    dispatcher::print_nwk(rt, name, device, 0x0033, 0x1234, 0, 0, 0)
+    let name = "unknown cluster";
+    let ours = device::ours(2);
+    print_answer(rt, ours, ask(name, 0x0033, b"\x07\x34\x12", 4))?;
+    print_answer(rt, ours, ask(name, 0x8005, b"\x07\x34\x12", 4))?;
+    print_answer(rt, ours, ask(name, 0x0033, b"", 0))
 }
 
 // Refusal 3, and 5 with a byte more, which a leave never gets: the shortest payload of each request.
@@ -67,47 +68,35 @@ fn more_short_payloads(rt: &impl Print) -> io::Result<()> {
 fn shortest(rt: &impl Print, cluster: u16, length: usize) -> io::Result<()>
     requires { (1 ≤ length) × (length ≤ 15) }
 {
-    let name: &[u8] = b"shortest";
-    let device = device::our_device(2);
-    let payload: &[u8] = b"\x0A\x34\x12\x04\x01\x00\x00\x00\x00\x01\x02\x04\x01\x03\x00";
-    dispatcher::print_device(rt, name, device, cluster, &payload[0..length], 0)?;
-    dispatcher::print_device(rt, name, device, cluster, &payload[0..length - 1], 0)
+    let ours = device::ours(2);
+    let payload = b"\x0A\x34\x12\x04\x01\x00\x00\x00\x00\x01\x02\x04\x01\x03\x00";
+    print_answer(rt, ours, ask("shortest", cluster, &payload[..length], 0))?;
+    print_answer(
+        rt,
+        ours,
+        ask("shortest", cluster, &payload[..length - 1], 0),
+    )
 }
 
 // Refusal 4, between 3 and 5: simple requests for 29 clusters, without the last byte and with it, and for 28, in an empty buffer. One
 // about another address writes no descriptor, and so is answered.
 fn many_clusters(rt: &impl Print) -> io::Result<()> {
-    let name: &[u8] = b"29 clusters";
-    print_zeros(rt, name, 28, 0x34, 0x12, 3, 0)?;
-    print_zeros(rt, name, 28, 0x34, 0x12, 4, 0)?;
-    print_zeros(rt, name, 28, 0x78, 0x56, 4, 6)?;
-    print_zeros(rt, b"28 clusters", 27, 0x34, 0x12, 4, 0)
-}
-
-// A line for the first bytes of a simple request about the short address of these two bytes, to a device whose endpoint 1 has so many
-// inputs, of a pool of zeros, and an output.
-fn print_zeros(
-    rt: &impl Print,
-    name: &[u8],
-    count: u16,
-    low: u8,
-    high: u8,
-    length: usize,
-    room: usize,
-) -> io::Result<()>
-    requires { (length ≤ 4) × (room ≤ 37) }
-{
-    let payload = [0x07, low, high, 0x01];
-    dispatcher::print_dispatch(
+    let of_28 = device::of_inputs(27).with_inputs(&[0; 28]);
+    let of_29 = device::of_inputs(28).with_inputs(&[0; 28]);
+    print_answer(rt, of_29, ask("29 clusters", 0x0004, b"\x07\x34\x12", 0))?;
+    print_answer(
         rt,
-        name,
-        device::device_of_inputs(count),
-        &[0; 28],
-        &device::OUTPUTS,
-        BindingTable::new(32),
-        0x0004,
-        &payload[0..length],
-        room,
+        of_29,
+        ask("29 clusters", 0x0004, b"\x07\x34\x12\x01", 0),
     )?;
-    print::end_line(rt)
+    print_answer(
+        rt,
+        of_29,
+        ask("29 clusters", 0x0004, b"\x07\x78\x56\x01", 6),
+    )?;
+    print_answer(
+        rt,
+        of_28,
+        ask("28 clusters", 0x0004, b"\x07\x34\x12\x01", 0),
+    )
 }

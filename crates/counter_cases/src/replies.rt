@@ -14,204 +14,128 @@ use zdo_replies::management::NlmeLeaveStatus;
 use zdo_requests::descriptor::node_desc_req;
 use zigbee_types::{IeeeAddress, ShortAddress};
 
-// What is written here: replies of each kind, and the one request.
-#[derive(Clone, Copy)]
-enum Frame {
-    NodeRequest,
-    Node,
-    Power,
-    Match,
-    EmptyMatch,
-    Address(u8, bool),
-    Bind(u8, BindStatus),
-    Leave,
-    Error(ErrorKind, DiscoveryError),
-}
+// Our device's addresses, which are in the replies, and another device's, which are in the request and the errors.
+const OUR_IEEE: IeeeAddress = IeeeAddress(0x0102030405060708);
 
-// The replies that report an error. Node and power replies are one kind.
-#[derive(Clone, Copy)]
-enum ErrorKind {
-    Node,
-    Active,
-    Simple,
-    Match,
-    Address,
-}
+const OUR_SHORT: ShortAddress = ShortAddress(0x1234);
+
+const OTHER_IEEE: IeeeAddress = IeeeAddress(0xF8F7F6F5F4F3F2F1);
+
+const OTHER_SHORT: ShortAddress = ShortAddress(0x5678);
 
 // K1's node reply.
 pub(crate) fn k1(rt: &impl Print) -> io::Result<()> {
-    three_rooms(rt, b"K1 reply", Frame::Node, 17)
+    print::in_three_rooms(rt, "K1 reply", 17, |out| {
+        node_desc_rsp(descriptors::our_node(), 7, OUR_SHORT, out)
+    })
 }
 
 // K10's bind reply, and one with another status.
 pub(crate) fn k10(rt: &impl Print) -> io::Result<()> {
-    three_rooms(rt, b"K10 reply", Frame::Bind(0x0A, BindStatus::Success), 2)?;
-    print_frame(
-        rt,
-        b"bind reply",
-        Frame::Bind(0x0B, BindStatus::TableFull),
-        2,
-    )
+    print::in_three_rooms(rt, "K10 reply", 2, |out| {
+        bind_rsp(0x0A, BindStatus::Success, out)
+    })?;
+    print::in_room(rt, "bind reply", 2, |out| {
+        bind_rsp(0x0B, BindStatus::TableFull, out)
+    })
 }
 
 // The others, the errors each with both reasons.
 pub(crate) fn others(rt: &impl Print) -> io::Result<()> {
-    three_rooms(rt, b"node request", Frame::NodeRequest, 3)?;
-    three_rooms(rt, b"power reply", Frame::Power, 6)?;
-    three_rooms(rt, b"match reply", Frame::Match, 7)?;
-    print_frame(rt, b"empty match reply", Frame::EmptyMatch, 5)?;
+    print::in_three_rooms(rt, "node request", 3, |out| {
+        node_desc_req(0x10, OTHER_SHORT, out)
+    })?;
+    print::in_three_rooms(rt, "power reply", 6, |out| {
+        power_desc_rsp(descriptors::our_power(), 0x16, OUR_SHORT, out)
+    })?;
+    matches(rt)?;
     addresses(rt)?;
-    three_rooms(rt, b"leave reply", Frame::Leave, 2)?;
+    print::in_three_rooms(rt, "leave reply", 2, |out| mgmt_leave_rsp(0x1B, 0x8B, out))?;
     errors(rt, DiscoveryError::InvalidRequestType)?;
     errors(rt, DiscoveryError::DeviceNotFound)
 }
 
+// A match reply of two endpoints, and one of none.
+fn matches(rt: &impl Print) -> io::Result<()> {
+    print::in_three_rooms(rt, "match reply", 7, |out| {
+        match_desc_rsp(0x17, OUR_SHORT, &[0x03, 0xF0], out)
+    })?;
+    print::in_room(rt, "empty match reply", 5, |out| {
+        match_desc_rsp(0x18, OUR_SHORT, &[], out)
+    })
+}
+
 // The address replies, the second an extended one.
 fn addresses(rt: &impl Print) -> io::Result<()> {
-    three_rooms(rt, b"address reply", Frame::Address(0x19, false), 12)?;
-    three_rooms(
-        rt,
-        b"extended address reply",
-        Frame::Address(0x1A, true),
-        14,
-    )
+    print::in_three_rooms(rt, "address reply", 12, |out| {
+        addr_rsp(0x19, OUR_IEEE, OUR_SHORT, false, out)
+    })?;
+    print::in_three_rooms(rt, "extended address reply", 14, |out| {
+        addr_rsp(0x1A, OUR_IEEE, OUR_SHORT, true, out)
+    })
 }
 
-// The replies that report an error.
+// The replies that report an error. Node and power replies are one kind.
 fn errors(rt: &impl Print, error: DiscoveryError) -> io::Result<()> {
-    three_rooms(rt, b"node error", Frame::Error(ErrorKind::Node, error), 4)?;
-    three_rooms(
-        rt,
-        b"active error",
-        Frame::Error(ErrorKind::Active, error),
-        5,
-    )?;
-    three_rooms(
-        rt,
-        b"simple error",
-        Frame::Error(ErrorKind::Simple, error),
-        5,
-    )?;
-    three_rooms(rt, b"match error", Frame::Error(ErrorKind::Match, error), 3)?;
-    three_rooms(
-        rt,
-        b"address error",
-        Frame::Error(ErrorKind::Address, error),
-        12,
-    )
-}
-
-// Lines for a buffer with two bytes to spare, for one of the frame's length, and for one of a byte less.
-fn three_rooms(rt: &impl Print, name: &[u8], frame: Frame, length: usize) -> io::Result<()>
-    requires { (1 ≤ length) × (length ≤ 17) }
-{
-    print_frame(rt, name, frame, length + 2)?;
-    print_frame(rt, name, frame, length)?;
-    print_frame(rt, name, frame, length - 1)
-}
-
-// A line for a buffer of so many bytes.
-fn print_frame(rt: &impl Print, name: &[u8], frame: Frame, room: usize) -> io::Result<()>
-    requires { room ≤ 19 }
-{
-    print::room(rt, name, room)?;
-    let mut out = [0xEEu8; 19];
-    let buffer = &mut out[0..room];
-    let written = write(frame, buffer);
-    print::written(rt, written, buffer)
-}
-
-// Writes a frame. Our device's addresses are in the replies, another device's in the request and the errors.
-fn write(frame: Frame, out: &mut [u8]) -> Result<usize, Refusal> {
-    let ieee = IeeeAddress(0x0102030405060708);
-    let short = ShortAddress(0x1234);
-    match frame {
-        Frame::NodeRequest => node_desc_req(0x10, ShortAddress(0x5678), out),
-        Frame::Node => node_desc_rsp(descriptors::our_node(), 7, short, out),
-        Frame::Power => power_desc_rsp(descriptors::our_power(), 0x16, short, out),
-        Frame::Match => match_desc_rsp(0x17, short, &[0x03, 0xF0], out),
-        Frame::EmptyMatch => match_desc_rsp(0x18, short, &[], out),
-        Frame::Address(seq, extended) => addr_rsp(seq, ieee, short, extended, out),
-        Frame::Bind(seq, status) => bind_rsp(seq, status, out),
-        Frame::Leave => mgmt_leave_rsp(0x1B, 0x8B, out),
-        Frame::Error(kind, error) => write_error(kind, error, out),
-    }
-}
-
-// Writes a reply that reports an error.
-fn write_error(kind: ErrorKind, error: DiscoveryError, out: &mut [u8]) -> Result<usize, Refusal> {
-    let ieee = IeeeAddress(0xF8F7F6F5F4F3F2F1);
-    let short = ShortAddress(0x5678);
-    match kind {
-        ErrorKind::Node => descriptor_rsp_error(0x1C, error, short, out),
-        ErrorKind::Active => active_ep_rsp_error(0x1D, error, short, out),
-        ErrorKind::Simple => simple_desc_rsp_error(0x1E, error, short, out),
-        ErrorKind::Match => match_desc_rsp_error(0x1F, error, out),
-        ErrorKind::Address => addr_rsp_error(0x20, error, ieee, short, out),
-    }
+    print::in_three_rooms(rt, "node error", 4, |out| {
+        descriptor_rsp_error(0x1C, error, OTHER_SHORT, out)
+    })?;
+    print::in_three_rooms(rt, "active error", 5, |out| {
+        active_ep_rsp_error(0x1D, error, OTHER_SHORT, out)
+    })?;
+    print::in_three_rooms(rt, "simple error", 5, |out| {
+        simple_desc_rsp_error(0x1E, error, OTHER_SHORT, out)
+    })?;
+    print::in_three_rooms(rt, "match error", 3, |out| {
+        match_desc_rsp_error(0x1F, error, out)
+    })?;
+    print::in_three_rooms(rt, "address error", 12, |out| {
+        addr_rsp_error(0x20, error, OTHER_IEEE, OTHER_SHORT, out)
+    })
 }
 
 // Match replies of 256 endpoints, in a buffer that is long enough and in one that is not, and one of 255.
 pub(crate) fn many_matches(rt: &impl Print) -> io::Result<()> {
-    print_many(rt, b"256 matches", 256, 261)?;
-    print_many(rt, b"256 matches", 256, 260)?;
-    print_many(rt, b"255 matches", 255, 261)
+    print_many(rt, "256 matches", 256, 261)?;
+    print_many(rt, "256 matches", 256, 260)?;
+    print_many(rt, "255 matches", 255, 261)
 }
 
-// A line for the match reply of so many endpoints.
-fn print_many(rt: &impl Print, name: &[u8], count: usize, room: usize) -> io::Result<()>
+// A line for the match reply of so many endpoints. Of the buffer it has the byte of the count, that of the first endpoint, and the last
+// two.
+fn print_many(rt: &impl Print, name: &str, count: usize, room: usize) -> io::Result<()>
     requires { (count ≤ 256) × ((2 ≤ room) × (room ≤ 261)) }
 {
-    print::room(rt, name, room)?;
+    print!(rt; "{name} room {room}")?;
     let mut matches = [0x77u8; 256];
     matches[0] = 0xF1;
     matches[255] = 0xF2;
     let mut out = [0xEEu8; 261];
-    let short = ShortAddress(0x1234);
-    let written = match_desc_rsp(0x21, short, &matches[0..count], &mut out[0..room]);
-    print_ends(rt, written, &out, room)
-}
-
-// Of a buffer of so many bytes, the byte of the count, that of the first endpoint, and the last two.
-fn print_ends(rt: &impl Print, written: Result<usize, Refusal>, out: &[u8; 261], room: usize) -> io::Result<()>
-    requires { (2 ≤ room) × (room ≤ 261) }
-{
+    let written = match_desc_rsp(0x21, OUR_SHORT, &matches[..count], &mut out[..room]);
     print::written(rt, written, &[out[4], out[5], out[room - 2], out[room - 1]])
 }
 
 // The status for each of the Rust's reasons.
 pub(crate) fn codes(rt: &impl Print) -> io::Result<()> {
-    bind_codes(rt)?;
-    discovery_codes(rt)?;
-    leave_codes(rt)
-}
-
-// Those of a bind request.
-fn bind_codes(rt: &impl Print) -> io::Result<()> {
-    print::text(rt, b"bind codes")?;
-    print::byte(rt, BindStatus::Success.code())?;
-    print::byte(rt, BindStatus::InvalidEndpoint.code())?;
-    print::byte(rt, BindStatus::TableFull.code())?;
-    print::byte(rt, BindStatus::NoEntry.code())?;
-    print::byte(rt, BindStatus::NotSupported.code())?;
-    print::end_line(rt)
-}
-
-// Those of a discovery request.
-fn discovery_codes(rt: &impl Print) -> io::Result<()> {
-    print::text(rt, b"discovery codes")?;
-    print::byte(rt, DiscoveryError::InvalidRequestType.code())?;
-    print::byte(rt, DiscoveryError::DeviceNotFound.code())?;
-    print::end_line(rt)
-}
-
-// Those of a leave request.
-fn leave_codes(rt: &impl Print) -> io::Result<()> {
-    print::text(rt, b"leave codes")?;
-    print::byte(rt, leave_status(NlmeLeaveStatus::Success))?;
-    print::byte(rt, leave_status(NlmeLeaveStatus::InvalidRequest))?;
-    print::byte(rt, leave_status(NlmeLeaveStatus::UnknownDevice))?;
-    print::byte(rt, leave_status(NlmeLeaveStatus::MacError))?;
-    print::byte(rt, leave_status(NlmeLeaveStatus::NotAuthorized))?;
-    print::end_line(rt)
+    println!(rt;
+        "bind codes {:02x} {:02x} {:02x} {:02x} {:02x}",
+        BindStatus::Success.code(),
+        BindStatus::InvalidEndpoint.code(),
+        BindStatus::TableFull.code(),
+        BindStatus::NoEntry.code(),
+        BindStatus::NotSupported.code()
+    )?;
+    println!(rt;
+        "discovery codes {:02x} {:02x}",
+        DiscoveryError::InvalidRequestType.code(),
+        DiscoveryError::DeviceNotFound.code()
+    )?;
+    println!(rt;
+        "leave codes {:02x} {:02x} {:02x} {:02x} {:02x}",
+        leave_status(NlmeLeaveStatus::Success),
+        leave_status(NlmeLeaveStatus::InvalidRequest),
+        leave_status(NlmeLeaveStatus::UnknownDevice),
+        leave_status(NlmeLeaveStatus::MacError),
+        leave_status(NlmeLeaveStatus::NotAuthorized)
+    )
 }
