@@ -1,4 +1,6 @@
 // The flags of the node descriptor's fields, and the stack revision in its server mask (001; 2.3.2.3).
+// Each kind has an `is_set` of one line, as in the Rust: a trait is no plainer, since an impl for each kind would name its flags and
+// the number of each, and end in the same line.
 #![tactic(auto)]
 
 ghost use Rattle.std.specs.Prelude.{◌≡◌};
@@ -11,31 +13,17 @@ use byte::bit_at;
 #[derive(Clone, Copy)]
 pub struct FrequencyBands(pub u8);
 
-// The flags of the frequency band field.
+// The flags of the frequency band field, each with the number of its bit.
 #[derive(Clone, Copy)]
 pub enum FrequencyBandFlag {
     // 868 - 868.6 MHz
-    Low,
+    Low = 0,
     // 902 - 928 MHz
-    Mid,
+    Mid = 2,
     // 2400 - 2483.5 MHz
-    High,
+    High = 3,
     // European FSK sub-GHz bands: (863-876MHz and 915-921MHz)
-    EuropeanFSK,
-}
-
-impl FrequencyBandFlag {
-    // The number of a flag's bit.
-    fn number(self) -> u8
-        ensures { result ≡ frequency_band_flag_of self }
-    {
-        match self {
-            FrequencyBandFlag::Low => 0,
-            FrequencyBandFlag::Mid => 2,
-            FrequencyBandFlag::High => 3,
-            FrequencyBandFlag::EuropeanFSK => 4,
-        }
-    }
+    EuropeanFSK = 4,
 }
 
 impl FrequencyBands {
@@ -43,7 +31,7 @@ impl FrequencyBands {
     pub fn is_set(self, frequency_band_flag: FrequencyBandFlag) -> bool
         ensures { result ≡ bit_at (frequency_band_flag_of frequency_band_flag) self.0 }
     {
-        bit_at(frequency_band_flag.number(), self.0 as u16)
+        bit_at(frequency_band_flag as u8, self.0 as u16)
     }
 }
 
@@ -51,36 +39,20 @@ impl FrequencyBands {
 #[derive(Clone, Copy)]
 pub struct MacCapabilities(pub u8);
 
-// The flags of the MAC capability flags field.
+// The flags of the MAC capability flags field, each with the number of its bit.
 #[derive(Clone, Copy)]
 pub enum MacCapabilityFlag {
     // Set if this node is capable of becoming a PAN coordinator.
-    AlternatePanCoordinator,
+    AlternatePanCoordinator = 0,
     // Set if this node is a full function device (FFD), unset for a reduced function device (RFD).
-    DeviceType,
+    DeviceType = 1,
     // Set if the current power source is mains power.
-    PowerSource,
+    PowerSource = 2,
     // Set if the device does not disable its receiver to conserve power during idle periods.
-    ReceiverOnWhenIdle,
+    ReceiverOnWhenIdle = 3,
     // Set if the device supports the Zigbee security suite.
-    SecurityCapability,
-    AllocateAddress,
-}
-
-impl MacCapabilityFlag {
-    // The number of a flag's bit.
-    fn number(self) -> u8
-        ensures { result ≡ mac_capability_flag_of self }
-    {
-        match self {
-            MacCapabilityFlag::AlternatePanCoordinator => 0,
-            MacCapabilityFlag::DeviceType => 1,
-            MacCapabilityFlag::PowerSource => 2,
-            MacCapabilityFlag::ReceiverOnWhenIdle => 3,
-            MacCapabilityFlag::SecurityCapability => 6,
-            MacCapabilityFlag::AllocateAddress => 7,
-        }
-    }
+    SecurityCapability = 6,
+    AllocateAddress = 7,
 }
 
 impl MacCapabilities {
@@ -88,7 +60,7 @@ impl MacCapabilities {
     pub fn is_set(self, mac_capability_flag: MacCapabilityFlag) -> bool
         ensures { result ≡ bit_at (mac_capability_flag_of mac_capability_flag) self.0 }
     {
-        bit_at(mac_capability_flag.number(), self.0 as u16)
+        bit_at(mac_capability_flag as u8, self.0 as u16)
     }
 }
 
@@ -96,33 +68,16 @@ impl MacCapabilities {
 #[derive(Clone, Copy)]
 pub struct ServerMask(pub u16);
 
-// The flags of the server mask field.
+// The flags of the server mask field, each with the number of its bit.
 #[derive(Clone, Copy)]
 pub enum ServerMaskFlag {
-    PrimaryTrustCenter,
-    BackupTrustCenter,
-    PrimaryBindingTableCache,
-    BackupBindingTableCache,
-    PrimaryDiscoveryCache,
-    BackupDiscoveryCache,
-    NetworkManager,
-}
-
-impl ServerMaskFlag {
-    // The number of a flag's bit.
-    fn number(self) -> u8
-        ensures { result ≡ server_mask_flag_of self }
-    {
-        match self {
-            ServerMaskFlag::PrimaryTrustCenter => 0,
-            ServerMaskFlag::BackupTrustCenter => 1,
-            ServerMaskFlag::PrimaryBindingTableCache => 2,
-            ServerMaskFlag::BackupBindingTableCache => 3,
-            ServerMaskFlag::PrimaryDiscoveryCache => 4,
-            ServerMaskFlag::BackupDiscoveryCache => 5,
-            ServerMaskFlag::NetworkManager => 6,
-        }
-    }
+    PrimaryTrustCenter = 0,
+    BackupTrustCenter = 1,
+    PrimaryBindingTableCache = 2,
+    BackupBindingTableCache = 3,
+    PrimaryDiscoveryCache = 4,
+    BackupDiscoveryCache = 5,
+    NetworkManager = 6,
 }
 
 impl ServerMask {
@@ -130,7 +85,7 @@ impl ServerMask {
     pub fn is_set(self, server_mask_flag: ServerMaskFlag) -> bool
         ensures { result ≡ bit_at (server_mask_flag_of server_mask_flag) self.0 }
     {
-        bit_at(server_mask_flag.number(), self.0)
+        bit_at(server_mask_flag as u8, self.0)
     }
 
     // The revision of the stack that the node complies with.
@@ -145,23 +100,11 @@ impl ServerMask {
 #[derive(Clone, Copy)]
 pub struct DescriptorCapabilities(pub u8);
 
-// The flags of the descriptor capability field, as the Rust spells them.
+// The flags of the descriptor capability field as the Rust spells them, each with the number of its bit.
 #[derive(Clone, Copy)]
 pub enum DescriptorCapabilityFlag {
-    ExtendedActiveEndpontListAvailable,
-    ExtendedSimpleDescriptorListAvailable,
-}
-
-impl DescriptorCapabilityFlag {
-    // The number of a flag's bit.
-    fn number(self) -> u8
-        ensures { result ≡ descriptor_capability_flag_of self }
-    {
-        match self {
-            DescriptorCapabilityFlag::ExtendedActiveEndpontListAvailable => 0,
-            DescriptorCapabilityFlag::ExtendedSimpleDescriptorListAvailable => 1,
-        }
-    }
+    ExtendedActiveEndpontListAvailable = 0,
+    ExtendedSimpleDescriptorListAvailable = 1,
 }
 
 impl DescriptorCapabilities {
@@ -169,6 +112,6 @@ impl DescriptorCapabilities {
     pub fn is_set(self, descriptor_capability_flag: DescriptorCapabilityFlag) -> bool
         ensures { result ≡ bit_at (descriptor_capability_flag_of descriptor_capability_flag) self.0 }
     {
-        bit_at(descriptor_capability_flag.number(), self.0 as u16)
+        bit_at(descriptor_capability_flag as u8, self.0 as u16)
     }
 }
