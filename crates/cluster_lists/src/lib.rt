@@ -5,7 +5,7 @@ ghost use Rattle.std.specs.Prelude.{◌≡◌, ◌+◌, ◌≤◌, length};
 ghost use Rattle.zigbee_types.specs.Layout.{ListRead, lists_in};
 ghost use Rattle.zigbee_types.specs.Answers.{says};
 
-use byte::{Read, read_u8};
+use byte::{Field, Read};
 use zigbee_types::{ClusterLists, Places, Refusal};
 
 // The list of clusters, two bytes each, whose count is the byte at a place. The list may run past the end.
@@ -13,7 +13,7 @@ fn read_list(bytes: &[u8], at: usize) -> Read<Places>
     requires { at + 1 ≤ length bytes.now }
     ensures { ListRead 2 bytes.now at result.value result.next }
 {
-    let read = read_u8(bytes, at);
+    let read = u8::read(bytes, at);
     let start = read.next;
     let count = read.value as usize;
     Read {

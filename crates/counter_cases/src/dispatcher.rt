@@ -6,7 +6,7 @@ ghost use Rattle.std.specs.Prelude.{◌≤◌};
 use crate::device::{self, Tables};
 use crate::{bindings, print, requests};
 use aps_binding_table::binding::BindingTable;
-use byte::write_u64;
+use byte::Field;
 use std::io;
 use zdo_dispatcher::dispatcher::{Responded, Response, dispatch};
 use zigbee_types::{IeeeAddress, Refusal, ShortAddress};
@@ -154,7 +154,7 @@ pub(crate) fn print_ieee(
     requires { room ≤ 37 }
 {
     let mut payload = [7u8; 10];
-    write_u64(&mut payload, 1, ieee);
+    u64::write(&mut payload, 1, ieee);
     payload[9] = last;
     print_answer(rt, device::ours(2), ask(name, cluster, &payload, room))
 }

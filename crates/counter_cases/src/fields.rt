@@ -1,6 +1,6 @@
 // K10's bind request, field by field.
 use crate::print;
-use byte::{read_u8, read_u16, read_u64, write_u8, write_u16, write_u64};
+use byte::Field;
 use std::io;
 use zigbee_types::{GroupAddress, IeeeAddress};
 
@@ -17,12 +17,12 @@ struct Fields {
 
 // Each field begins where the one before it ended.
 fn fields_of(request: &[u8; 15]) -> Fields {
-    let seq = read_u8(request, 0);
-    let src_address = read_u64(request, seq.next);
-    let src_endpoint = read_u8(request, src_address.next);
-    let cluster_id = read_u16(request, src_endpoint.next);
-    let dst_addr_mode = read_u8(request, cluster_id.next);
-    let dst_group = read_u16(request, dst_addr_mode.next);
+    let seq = u8::read(request, 0);
+    let src_address = u64::read(request, seq.next);
+    let src_endpoint = u8::read(request, src_address.next);
+    let cluster_id = u16::read(request, src_endpoint.next);
+    let dst_addr_mode = u8::read(request, cluster_id.next);
+    let dst_group = u16::read(request, dst_addr_mode.next);
     Fields {
         seq: seq.value,
         src_address: IeeeAddress(src_address.value),
@@ -35,12 +35,12 @@ fn fields_of(request: &[u8; 15]) -> Fields {
 
 // Puts the fields one behind the other at the front of a buffer.
 fn put(fields: Fields, out: &mut [u8; 16]) {
-    let at = write_u8(out, 0, fields.seq);
-    let at = write_u64(out, at, fields.src_address.0);
-    let at = write_u8(out, at, fields.src_endpoint);
-    let at = write_u16(out, at, fields.cluster_id);
-    let at = write_u8(out, at, fields.dst_addr_mode);
-    write_u16(out, at, fields.dst_group.0);
+    let at = u8::write(out, 0, fields.seq);
+    let at = u64::write(out, at, fields.src_address.0);
+    let at = u8::write(out, at, fields.src_endpoint);
+    let at = u16::write(out, at, fields.cluster_id);
+    let at = u8::write(out, at, fields.dst_addr_mode);
+    u16::write(out, at, fields.dst_group.0);
 }
 
 // The fields of K10's request, and the bytes that putting them back leaves in a buffer one byte longer.

@@ -30,11 +30,11 @@ one_link : Determines link_says
 unfolding link_says
 one_link =
     determined _ link_of (λ why. Err (error.Refused why))
-    (elim
-    [ Ok tt ↦ refl
-    | Err error.InvalidBinding ↦ refl
-    | Err error.TableFull ↦ refl
-    | Err (error.Refused why) ↦ refused_back (λ why. Err (error.Refused why)) why
+    (elim [
+      | Ok tt ↦ refl
+      | Err error.InvalidBinding ↦ refl
+      | Err error.TableFull ↦ refl
+      | Err (error.Refused why) ↦ refused_back (λ why. Err (error.Refused why)) why
     ])
 
 one_matching : Determines matching_says

@@ -6,7 +6,7 @@ ghost use Rattle.zigbee_types.specs.Layout.{laid};
 ghost use Rattle.node_descriptor.specs.NodeDescriptor.{node_byte0, node_byte1, node_descriptor_of};
 
 use crate::{LogicalType, NODE_DESCRIPTOR_SIZE};
-use byte::{write_u8, write_u16};
+use byte::Field;
 use zigbee_types::Refusal;
 
 // Static configuration of the node descriptor (2.3.2.3). Its default says that the device is a router, and zero elsewhere
@@ -56,15 +56,15 @@ impl NodeDescriptorConfig {
         if out.len() < NODE_DESCRIPTOR_SIZE {
             return Err(Refusal::ShortBuffer);
         }
-        let at = write_u8(out, 0, self.byte0());
-        let at = write_u8(out, at, self.byte1());
-        let at = write_u8(out, at, self.mac_capability_flags);
-        let at = write_u16(out, at, self.manufacturer_code);
-        let at = write_u8(out, at, self.maximum_buffer_size);
-        let at = write_u16(out, at, self.maximum_incoming_transfer_size);
-        let at = write_u16(out, at, self.server_mask);
-        let at = write_u16(out, at, self.maximum_outgoing_transfer_size);
-        let at = write_u8(out, at, self.descriptor_capability_field);
+        let at = u8::write(out, 0, self.byte0());
+        let at = u8::write(out, at, self.byte1());
+        let at = u8::write(out, at, self.mac_capability_flags);
+        let at = u16::write(out, at, self.manufacturer_code);
+        let at = u8::write(out, at, self.maximum_buffer_size);
+        let at = u16::write(out, at, self.maximum_incoming_transfer_size);
+        let at = u16::write(out, at, self.server_mask);
+        let at = u16::write(out, at, self.maximum_outgoing_transfer_size);
+        let at = u8::write(out, at, self.descriptor_capability_field);
         Ok(at)
     }
 }

@@ -7,7 +7,7 @@ ghost use Rattle.std.specs.Prelude.{◌≡◌, ◌%◌};
 ghost use Rattle.node_descriptor.specs.NodeDescriptor.{type_number, type_bits, logical_type_of, node_descriptor_in, node_fields};
 ghost use Rattle.zigbee_types.specs.Answers.{says};
 
-use byte::{bit_at, read_u8, read_u16};
+use byte::{Field, bit_at};
 use node_flags::{DescriptorCapabilities, FrequencyBands, MacCapabilities, ServerMask};
 use zigbee_types::Refusal;
 
@@ -88,15 +88,15 @@ impl NodeDescriptor {
         if bytes.len() < NODE_DESCRIPTOR_SIZE {
             return Err(Refusal::Malformed);
         }
-        let byte0 = read_u8(bytes, 0);
-        let byte1 = read_u8(bytes, byte0.next);
-        let mac_capability_flags = read_u8(bytes, byte1.next);
-        let manufacturer_code = read_u16(bytes, mac_capability_flags.next);
-        let maximum_buffer_size = read_u8(bytes, manufacturer_code.next);
-        let maximum_incoming_transfer_size = read_u16(bytes, maximum_buffer_size.next);
-        let server_mask = read_u16(bytes, maximum_incoming_transfer_size.next);
-        let maximum_outgoing_transfer_size = read_u16(bytes, server_mask.next);
-        let descriptor_capability_field = read_u8(bytes, maximum_outgoing_transfer_size.next);
+        let byte0 = u8::read(bytes, 0);
+        let byte1 = u8::read(bytes, byte0.next);
+        let mac_capability_flags = u8::read(bytes, byte1.next);
+        let manufacturer_code = u16::read(bytes, mac_capability_flags.next);
+        let maximum_buffer_size = u8::read(bytes, manufacturer_code.next);
+        let maximum_incoming_transfer_size = u16::read(bytes, maximum_buffer_size.next);
+        let server_mask = u16::read(bytes, maximum_incoming_transfer_size.next);
+        let maximum_outgoing_transfer_size = u16::read(bytes, server_mask.next);
+        let descriptor_capability_field = u8::read(bytes, maximum_outgoing_transfer_size.next);
         Ok(NodeDescriptor {
             byte0: byte0.value,
             byte1: byte1.value,

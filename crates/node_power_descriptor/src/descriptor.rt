@@ -6,7 +6,7 @@ ghost use Rattle.zigbee_types.specs.Layout.{laid};
 ghost use Rattle.node_power_descriptor.specs.PowerDescriptor.{power_byte0, power_byte1, power_descriptor_of};
 
 use crate::NODE_POWER_DESCRIPTOR_SIZE;
-use byte::write_u8;
+use byte::Field;
 use power_names::{CurrentPowerMode, CurrentPowerSourceLevel, PowerSource};
 use zigbee_types::Refusal;
 
@@ -51,8 +51,8 @@ impl PowerDescriptorConfig {
         if out.len() < NODE_POWER_DESCRIPTOR_SIZE {
             return Err(Refusal::ShortBuffer);
         }
-        let at = write_u8(out, 0, self.byte0());
-        let at = write_u8(out, at, self.byte1());
+        let at = u8::write(out, 0, self.byte0());
+        let at = u8::write(out, at, self.byte1());
         Ok(at)
     }
 }

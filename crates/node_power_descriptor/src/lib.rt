@@ -7,7 +7,7 @@ ghost use Rattle.std.specs.Prelude.{◌≡◌, ◌/◌, ◌%◌};
 ghost use Rattle.node_power_descriptor.specs.PowerDescriptor.{power_descriptor_in, power_fields, supports, usable};
 ghost use Rattle.zigbee_types.specs.Answers.{says};
 
-use byte::{nibble, read_u8};
+use byte::{Field, nibble};
 use power_names::{CurrentPowerMode, CurrentPowerSourceLevel, PowerSource};
 use zigbee_types::Refusal;
 
@@ -29,8 +29,8 @@ impl NodePowerDescriptor {
         if bytes.len() < NODE_POWER_DESCRIPTOR_SIZE {
             return Err(Refusal::Malformed);
         }
-        let byte0 = read_u8(bytes, 0);
-        let byte1 = read_u8(bytes, byte0.next);
+        let byte0 = u8::read(bytes, 0);
+        let byte1 = u8::read(bytes, byte0.next);
         let descriptor = NodePowerDescriptor {
             byte0: byte0.value,
             byte1: byte1.value,

@@ -4,6 +4,7 @@ ghost use Rattle.std.specs.Prelude.{◌<◌};
 
 use crate::out::Text;
 use crate::{node, out, words};
+use byte::Field;
 use std::io;
 
 // A field of one, two or eight bytes.
@@ -67,7 +68,7 @@ fn read_u8(bytes: &[u8], place: usize, text: Text) -> io::Result<Text>
     if bytes.len() < place + 1 {
         return out::byte(text, b'R');
     }
-    let field = byte::read_u8(bytes, place);
+    let field = u8::read(bytes, place);
     let text = out::hex_u8(text, field.value)?;
     behind(text, field.next)
 }
@@ -79,7 +80,7 @@ fn read_u16(bytes: &[u8], place: usize, text: Text) -> io::Result<Text>
     if bytes.len() < place + 2 {
         return out::byte(text, b'R');
     }
-    let field = byte::read_u16(bytes, place);
+    let field = u16::read(bytes, place);
     let text = out::hex_u16(text, field.value)?;
     behind(text, field.next)
 }
@@ -91,7 +92,7 @@ fn read_u64(bytes: &[u8], place: usize, text: Text) -> io::Result<Text>
     if bytes.len() < place + 8 {
         return out::byte(text, b'R');
     }
-    let field = byte::read_u64(bytes, place);
+    let field = u64::read(bytes, place);
     let text = out::hex_u64(text, field.value)?;
     behind(text, field.next)
 }
@@ -109,7 +110,7 @@ fn write_u8(buffer: &mut [u8], place: usize, number: u8, text: Text) -> io::Resu
     if buffer.len() < place + 1 {
         return out::byte(text, b'R');
     }
-    let next = byte::write_u8(buffer, place, number);
+    let next = u8::write(buffer, place, number);
     out::wrote(text, next, buffer)
 }
 
@@ -120,7 +121,7 @@ fn write_u16(buffer: &mut [u8], place: usize, number: u16, text: Text) -> io::Re
     if buffer.len() < place + 2 {
         return out::byte(text, b'R');
     }
-    let next = byte::write_u16(buffer, place, number);
+    let next = u16::write(buffer, place, number);
     out::wrote(text, next, buffer)
 }
 
@@ -131,6 +132,6 @@ fn write_u64(buffer: &mut [u8], place: usize, number: u64, text: Text) -> io::Re
     if buffer.len() < place + 8 {
         return out::byte(text, b'R');
     }
-    let next = byte::write_u64(buffer, place, number);
+    let next = u64::write(buffer, place, number);
     out::wrote(text, next, buffer)
 }

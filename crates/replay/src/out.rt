@@ -174,7 +174,12 @@ pub(crate) fn wrote(text: Text, count: usize, buffer: &[u8]) -> io::Result<Text>
 }
 
 // Puts what a writer answered, and the buffer that it left. The word of the question says the buffer as it was.
-pub(crate) fn written(text: Text, answer: Result<usize, Refusal>, word: &[u8], buffer: &[u8]) -> io::Result<Text> {
+pub(crate) fn written(
+    text: Text,
+    answer: Result<usize, Refusal>,
+    word: &[u8],
+    buffer: &[u8],
+) -> io::Result<Text> {
     match answer {
         Ok(count) => wrote(text, count, buffer),
         Err(_) => refused(text, word, buffer),

@@ -2,8 +2,8 @@
 use crate::out::Text;
 use crate::words::u16_at;
 use crate::{bits, out, values, words};
-use node_power_descriptor::descriptor::PowerDescriptorConfig;
 use node_power_descriptor::NodePowerDescriptor;
+use node_power_descriptor::descriptor::PowerDescriptorConfig;
 use std::io;
 
 // Puts the answer to a question about the node power descriptor, or hands the line on.

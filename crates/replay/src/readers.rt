@@ -104,9 +104,7 @@ fn node(bytes: &[u8], text: Text) -> io::Result<Text> {
 // Puts a node descriptor after a space, or `-` for none.
 fn put_node(descriptor: Option<NodeDescriptor>, text: Text) -> io::Result<Text> {
     match descriptor {
-        Some(descriptor) => {
-            node::put_descriptor(descriptor, out::byte(text, b' ')?)
-        }
+        Some(descriptor) => { node::put_descriptor(descriptor, out::byte(text, b' ')?) }
         None => put_none(text),
     }
 }

@@ -119,7 +119,12 @@ fn write_other(line: &[u8], reply: Reply, seq: u8, buffer: &mut [u8]) -> Result<
 }
 
 // Writes a power reply: behind the question's name stand NUMBER SHORT POWER NAMEDS BUFFER.
-fn write_power(line: &[u8], seq: u8, address: ShortAddress, buffer: &mut [u8]) -> Result<usize, Refusal> {
+fn write_power(
+    line: &[u8],
+    seq: u8,
+    address: ShortAddress,
+    buffer: &mut [u8],
+) -> Result<usize, Refusal> {
     let available = bits::bitmap(line, 4);
     let power = power::power_of(words::word_of(line, 3), available);
     power_desc_rsp(power, seq, address, buffer)
@@ -137,7 +142,12 @@ fn write_addr(line: &[u8], seq: u8, buffer: &mut [u8]) -> Result<usize, Refusal>
 }
 
 // Writes a match reply: behind the question's name stand NUMBER SHORT BYTES BUFFER.
-fn write_match(line: &[u8], seq: u8, address: ShortAddress, buffer: &mut [u8]) -> Result<usize, Refusal> {
+fn write_match(
+    line: &[u8],
+    seq: u8,
+    address: ShortAddress,
+    buffer: &mut [u8],
+) -> Result<usize, Refusal> {
     let mut endpoints = [0u8; words::BYTES];
     let count = words::bytes_in(line, 3, &mut endpoints);
     match_desc_rsp(seq, address, &endpoints[0..count], buffer)
@@ -145,7 +155,12 @@ fn write_match(line: &[u8], seq: u8, address: ShortAddress, buffer: &mut [u8]) -
 
 // Writes a reply that reports an error: behind the question's name stand NUMBER REASON, then IEEE SHORT of an address reply, nothing
 // of a match reply, SHORT of the others, and BUFFER.
-fn write_error(line: &[u8], error: ErrorReply, seq: u8, buffer: &mut [u8]) -> Result<usize, Refusal> {
+fn write_error(
+    line: &[u8],
+    error: ErrorReply,
+    seq: u8,
+    buffer: &mut [u8],
+) -> Result<usize, Refusal> {
     let why = discovery_error(words::u8_in(line, 2));
     let address = ShortAddress(words::u16_in(line, 3));
     match error {
@@ -158,7 +173,12 @@ fn write_error(line: &[u8], error: ErrorReply, seq: u8, buffer: &mut [u8]) -> Re
 }
 
 // Writes an address reply that reports an error.
-fn write_addr_error(line: &[u8], seq: u8, why: DiscoveryError, buffer: &mut [u8]) -> Result<usize, Refusal> {
+fn write_addr_error(
+    line: &[u8],
+    seq: u8,
+    why: DiscoveryError,
+    buffer: &mut [u8],
+) -> Result<usize, Refusal> {
     let ieee = IeeeAddress(words::hex_in(line, 3));
     addr_rsp_error(seq, why, ieee, ShortAddress(words::u16_in(line, 4)), buffer)
 }

@@ -1,6 +1,7 @@
 // The questions about requests (oracle/README.md, "Requests").
 use crate::out::Text;
 use crate::{bindings, out, replies, words};
+use byte::Field;
 use std::io;
 use zdo_bind_req::descriptor::parse_bind_req;
 use zdo_leave_req::descriptor::parse_mgmt_leave_req;
@@ -139,7 +140,7 @@ fn put_list(bytes: &[u8], list: Places, text: Text) -> io::Result<Text> {
         if bytes.len() - place < 2 {
             return out::byte(text, b'?');
         }
-        let cluster = byte::read_u16(bytes, place);
+        let cluster = u16::read(bytes, place);
         text = out::hex_u16(text, cluster.value)?;
         place = cluster.next;
         i += 1;

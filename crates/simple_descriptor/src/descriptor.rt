@@ -5,7 +5,7 @@ ghost use Rattle.zigbee_types.specs.Answers.{says};
 ghost use Rattle.zigbee_types.specs.Layout.{FieldsPut, listed};
 ghost use Rattle.simple_descriptor.specs.SimpleDescriptor.{endpoint_with, simple_written};
 
-use byte::{nibble, write_u8, write_u16};
+use byte::{Field, nibble};
 use zigbee_types::Refusal;
 
 // The most clusters of a descriptor that is written (document 01, refusal 4).
@@ -31,10 +31,10 @@ pub fn write(
     if out.len() < 8 + 2 * count {
         return Err(Refusal::ShortBuffer);
     }
-    let at = write_u8(out, 0, endpoint);
-    let at = write_u16(out, at, profile_id);
-    let at = write_u16(out, at, device_id);
-    let at = write_u8(out, at, nibble(device_version));
+    let at = u8::write(out, 0, endpoint);
+    let at = u16::write(out, at, profile_id);
+    let at = u16::write(out, at, device_id);
+    let at = u8::write(out, at, nibble(device_version));
     let at = write_clusters(out, at, input_clusters);
     let at = write_clusters(out, at, output_clusters);
     Ok(at)
@@ -45,10 +45,10 @@ fn write_clusters(out: &mut [u8], at: usize, clusters: &[u16]) -> usize
     requires { (length clusters.now ≤ 255) × (at + 1 + 2 * length clusters.now ≤ length out.old) }
     ensures { FieldsPut (listed 2 clusters.now) out.old at result out.new }
 {
-    let mut at = write_u8(out, at, clusters.len() as u8);
+    let mut at = u8::write(out, at, clusters.len() as u8);
     let mut i: usize = 0;
     while i < clusters.len() {
-        at = write_u16(out, at, clusters[i]);
+        at = u16::write(out, at, clusters[i]);
         i += 1;
     }
     at

@@ -8,7 +8,7 @@ ghost use Rattle.zigbee_types.specs.Layout.{field_of};
 ghost use Rattle.simple_descriptor.specs.SimpleDescriptor.{simple_widths, simple_of, simple_descriptor_in};
 ghost use Rattle.zigbee_types.specs.Answers.{says};
 
-use byte::{nibble, read_u8, read_u16};
+use byte::{Field, nibble};
 use zigbee_types::{ClusterLists, Places, Refusal};
 
 // A simple descriptor's fields, its two cluster lists as places in the bytes that it was read from.
@@ -36,10 +36,10 @@ impl SimpleDescriptorFields {
         requires { 6 ≤ length bytes.now }
         ensures { result ≡ simple_of (field_of simple_widths bytes.now) lists }
     {
-        let endpoint = read_u8(bytes, 0);
-        let profile_id = read_u16(bytes, endpoint.next);
-        let device_id = read_u16(bytes, profile_id.next);
-        let device_version = read_u8(bytes, device_id.next);
+        let endpoint = u8::read(bytes, 0);
+        let profile_id = u16::read(bytes, endpoint.next);
+        let device_id = u16::read(bytes, profile_id.next);
+        let device_version = u8::read(bytes, device_id.next);
         let input_clusters = lists.input_clusters;
         let output_clusters = lists.output_clusters;
         SimpleDescriptorFields {

@@ -6,7 +6,7 @@ ghost use Rattle.zigbee_types.specs.Layout.{FieldsPut};
 ghost use Rattle.zdo_replies.specs.Codes.{discovery_code};
 ghost use Rattle.zdo_replies.specs.Replies.{addr_header, addr_rsp_single, addr_rsp};
 
-use byte::{write_u8, write_u16, write_u64};
+use byte::Field;
 use zdo_replies::descriptor::{DiscoveryError, STATUS_SUCCESS};
 use zigbee_types::{IeeeAddress, Refusal, ShortAddress};
 
@@ -21,10 +21,10 @@ fn write_addr_header(
     requires { 12 ≤ length out.old }
     ensures { FieldsPut (addr_header seq status ieee_addr nwk_addr) out.old 0 result out.new }
 {
-    let at = write_u8(out, 0, seq);
-    let at = write_u8(out, at, status);
-    let at = write_u64(out, at, ieee_addr.0);
-    write_u16(out, at, nwk_addr.0)
+    let at = u8::write(out, 0, seq);
+    let at = u8::write(out, at, status);
+    let at = u64::write(out, at, ieee_addr.0);
+    u16::write(out, at, nwk_addr.0)
 }
 
 // Builds an address reply without associated-device fields.
@@ -64,8 +64,8 @@ pub fn addr_rsp(
     }
     let at = write_addr_header(out, seq, STATUS_SUCCESS, ieee_addr, nwk_addr);
     // NumAssocDev, StartIndex; the device list is empty
-    let at = write_u8(out, at, 0);
-    let at = write_u8(out, at, 0);
+    let at = u8::write(out, at, 0);
+    let at = u8::write(out, at, 0);
     Ok(at)
 }
 

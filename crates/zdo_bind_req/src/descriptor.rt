@@ -4,7 +4,7 @@ ghost use Rattle.zdo_requests.specs.Requests.{group_in, device_in, destination_i
 ghost use Rattle.zigbee_types.specs.Answers.{says};
 
 use aps_binding::binding::Binding;
-use byte::{read_u8, read_u16, read_u64};
+use byte::Field;
 use zdo_requests::descriptor::{BindReq, BindReqDestination};
 use zigbee_types::{GroupAddress, IeeeAddress, Refusal};
 
@@ -15,10 +15,10 @@ pub fn parse_bind_req(asdu: &[u8]) -> Result<BindReq, Refusal>
     if asdu.len() < 13 {
         return Err(Refusal::Malformed);
     }
-    let seq = read_u8(asdu, 0);
-    let src_address = read_u64(asdu, seq.next);
-    let src_endpoint = read_u8(asdu, src_address.next);
-    let cluster_id = read_u16(asdu, src_endpoint.next);
+    let seq = u8::read(asdu, 0);
+    let src_address = u64::read(asdu, seq.next);
+    let src_endpoint = u8::read(asdu, src_address.next);
+    let cluster_id = u16::read(asdu, src_endpoint.next);
     let destination = read_destination(asdu, cluster_id.next)?;
     Ok(BindReq {
         seq: seq.value,
@@ -35,7 +35,7 @@ fn read_destination(asdu: &[u8], at: usize) -> Result<BindReqDestination, Refusa
     requires { at + 1 ≤ length asdu.now }
     ensures { says result ≡ destination_in asdu.now at }
 {
-    let dst_addr_mode = read_u8(asdu, at);
+    let dst_addr_mode = u8::read(asdu, at);
     match dst_addr_mode.value {
         Binding::GROUP => read_group(asdu, dst_addr_mode.next),
         Binding::DEVICE => read_device(asdu, dst_addr_mode.next),
@@ -51,7 +51,7 @@ fn read_group(asdu: &[u8], at: usize) -> Result<BindReqDestination, Refusal>
     if asdu.len() < at + 2 {
         return Err(Refusal::Malformed);
     }
-    let group = read_u16(asdu, at);
+    let group = u16::read(asdu, at);
     Ok(BindReqDestination::Group(GroupAddress(group.value)))
 }
 
@@ -63,8 +63,8 @@ fn read_device(asdu: &[u8], at: usize) -> Result<BindReqDestination, Refusal>
     if asdu.len() < at + 9 {
         return Err(Refusal::Malformed);
     }
-    let ieee = read_u64(asdu, at);
-    let endpoint = read_u8(asdu, ieee.next);
+    let ieee = u64::read(asdu, at);
+    let endpoint = u8::read(asdu, ieee.next);
     Ok(BindReqDestination::Device {
         ieee: IeeeAddress(ieee.value),
         endpoint: endpoint.value,

@@ -6,7 +6,7 @@ ghost use Rattle.zigbee_types.specs.Layout.{FieldsPut};
 ghost use Rattle.zdo_replies.specs.Codes.{discovery_code};
 ghost use Rattle.zdo_replies.specs.Replies.{header, node_desc_rsp, power_desc_rsp, descriptor_rsp_error, empty_rsp};
 
-use byte::{write_u8, write_u16};
+use byte::Field;
 use node_descriptor::descriptor::NodeDescriptorConfig;
 use node_power_descriptor::descriptor::PowerDescriptorConfig;
 use zdo_replies::descriptor::{DiscoveryError, STATUS_SUCCESS};
@@ -20,9 +20,9 @@ pub fn write_header(out: &mut [u8], seq: u8, status: u8, nwk_addr: ShortAddress)
     requires { 4 ≤ length out.old }
     ensures { FieldsPut (header seq status nwk_addr) out.old 0 result out.new }
 {
-    let at = write_u8(out, 0, seq);
-    let at = write_u8(out, at, status);
-    write_u16(out, at, nwk_addr.0)
+    let at = u8::write(out, 0, seq);
+    let at = u8::write(out, at, status);
+    u16::write(out, at, nwk_addr.0)
 }
 
 // Builds a Node_Desc_rsp (2.4.4.2.3): seq, status, NWKAddrOfInterest, node descriptor. Too short a buffer is refused, here as in
@@ -92,7 +92,7 @@ pub fn empty_rsp(
         return Err(Refusal::ShortBuffer);
     }
     let at = write_header(out, seq, status, nwk_addr);
-    let at = write_u8(out, at, 0);
+    let at = u8::write(out, at, 0);
     Ok(at)
 }
 

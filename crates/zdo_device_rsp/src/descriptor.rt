@@ -8,7 +8,7 @@ ghost use Rattle.zdo_device.specs.Tables.{pools, record_fits, endpoint_of};
 ghost use Rattle.zdo_device.specs.Checked.{pools_of};
 ghost use Rattle.zdo_device_rsp.specs.TableReplies.{active_begun, active_ep_rsp, simple_rsp_of, simple_desc_rsp};
 
-use byte::write_u8;
+use byte::Field;
 use simple_descriptor::descriptor::write;
 use zdo_desc_rsp::descriptor::{empty_rsp, write_header};
 use zdo_device::descriptor::{DeviceDescriptorConfig, EndpointDescriptor, Side};
@@ -30,7 +30,7 @@ pub fn active_ep_rsp(
     let count = device.endpoint_count;
     let mut at = begin_active_ep_rsp(count, seq, nwk_addr, out)?;
     for ep in &device.endpoints[..count] {
-        at = write_u8(out, at, ep.endpoint);
+        at = u8::write(out, at, ep.endpoint);
     }
     Ok(at)
 }
@@ -52,7 +52,7 @@ pub fn begin_active_ep_rsp(
         return Err(Refusal::ShortBuffer);
     }
     let at = write_header(out, seq, STATUS_SUCCESS, nwk_addr);
-    let at = write_u8(out, at, count as u8);
+    let at = u8::write(out, at, count as u8);
     Ok(at)
 }
 

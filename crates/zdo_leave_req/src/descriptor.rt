@@ -3,7 +3,7 @@ ghost use Rattle.std.specs.Prelude.{◌≡◌};
 ghost use Rattle.zdo_requests.specs.Requests.{option_ieee, mgmt_leave_req_in};
 ghost use Rattle.zigbee_types.specs.Answers.{says};
 
-use byte::{read_u8, read_u64};
+use byte::Field;
 use zdo_requests::descriptor::MgmtLeaveReq;
 use zigbee_types::{IeeeAddress, Refusal};
 
@@ -19,9 +19,9 @@ pub fn parse_mgmt_leave_req(asdu: &[u8]) -> Result<MgmtLeaveReq, Refusal>
     if asdu.len() < 10 {
         return Err(Refusal::Malformed);
     }
-    let seq = read_u8(asdu, 0);
-    let addr = read_u64(asdu, seq.next);
-    let options = read_u8(asdu, addr.next);
+    let seq = u8::read(asdu, 0);
+    let addr = u64::read(asdu, seq.next);
+    let options = u8::read(asdu, addr.next);
     Ok(MgmtLeaveReq {
         seq: seq.value,
         device_address: device_address(addr.value),

@@ -8,7 +8,7 @@ ghost use Rattle.zdo_matching.specs.Matching.{matched_records};
 ghost use Rattle.zdo_matching.specs.Answers.{matching_says};
 ghost use Rattle.zdo_device_rsp.specs.TableReplies.{active_records};
 
-use byte::write_u8;
+use byte::Field;
 use zdo_device::descriptor::{EndpointDescriptor, good_sizes};
 use zdo_device_rsp::descriptor::begin_active_ep_rsp;
 use zdo_matching::descriptor::{Matched, good_places, match_record};
@@ -71,7 +71,7 @@ pub fn active_ep_rsp_lent(
 {
     let mut at = begin_active_ep_rsp(endpoints.len(), seq, nwk_addr, out)?;
     for ep in endpoints {
-        at = write_u8(out, at, ep.endpoint);
+        at = u8::write(out, at, ep.endpoint);
     }
     Ok(at)
 }

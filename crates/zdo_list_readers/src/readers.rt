@@ -6,7 +6,7 @@ ghost use Rattle.zdo_list_readers.specs.ListReaders.{list_behind, list_reply_in,
 ghost use Rattle.zigbee_types.specs.Answers.{says};
 ghost use Rattle.zdo_list_readers.specs.declared.readers.MatchReply.TheVariants.{Matched};
 
-use byte::read_u8;
+use byte::Field;
 use simple_descriptor::SimpleDescriptorFields;
 use zdo_readers::readers::{ReplyHeader, StatusReply};
 use zdo_replies::descriptor::STATUS_SUCCESS;
@@ -39,7 +39,7 @@ impl ListReply {
         if reply.len() < 5 {
             return Err(Refusal::Malformed);
         }
-        let count = read_u8(reply, 4);
+        let count = u8::read(reply, 4);
         let start = count.next;
         let count = count.value as usize;
         if reply.len() < start + count {
@@ -69,8 +69,8 @@ impl MatchReply {
         if reply.len() < 3 {
             return Err(Refusal::Malformed);
         }
-        let seq = read_u8(reply, 0);
-        let status = read_u8(reply, seq.next);
+        let seq = u8::read(reply, 0);
+        let status = u8::read(reply, seq.next);
         if status.value == STATUS_SUCCESS {
             return Ok(MatchReply::Matched(ListReply::try_read(reply)?));
         }

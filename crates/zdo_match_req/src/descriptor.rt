@@ -3,7 +3,7 @@ ghost use Rattle.std.specs.Prelude.{◌≡◌};
 ghost use Rattle.zdo_requests.specs.Requests.{match_desc_req_in};
 ghost use Rattle.zigbee_types.specs.Answers.{says};
 
-use byte::{read_u8, read_u16};
+use byte::Field;
 use zdo_requests::descriptor::MatchDescReq;
 use zigbee_types::{Refusal, ShortAddress};
 
@@ -14,9 +14,9 @@ pub fn parse_match_desc_req(asdu: &[u8]) -> Result<MatchDescReq, Refusal>
     if asdu.len() < 5 {
         return Err(Refusal::Malformed);
     }
-    let seq = read_u8(asdu, 0);
-    let nwk_addr_of_interest = read_u16(asdu, seq.next);
-    let profile_id = read_u16(asdu, nwk_addr_of_interest.next);
+    let seq = u8::read(asdu, 0);
+    let nwk_addr_of_interest = u16::read(asdu, seq.next);
+    let profile_id = u16::read(asdu, nwk_addr_of_interest.next);
     let lists = cluster_lists::try_read(asdu, profile_id.next)?;
     let input_clusters = lists.input_clusters;
     let output_clusters = lists.output_clusters;

@@ -6,7 +6,7 @@ ghost use Rattle.zigbee_types.specs.Layout.{byte, laid};
 ghost use Rattle.zdo_replies.specs.Codes.{discovery_code};
 ghost use Rattle.zdo_replies.specs.Replies.{list_rsp, match_desc_rsp_error};
 
-use byte::write_u8;
+use byte::Field;
 use zdo_desc_rsp::descriptor::write_header;
 use zdo_replies::descriptor::{DiscoveryError, STATUS_SUCCESS};
 use zigbee_types::{Refusal, ShortAddress};
@@ -46,7 +46,7 @@ pub fn list_rsp(
         return Err(Refusal::ShortBuffer);
     }
     let at = write_header(out, seq, STATUS_SUCCESS, nwk_addr);
-    let at = write_u8(out, at, count_byte(list.len()));
+    let at = u8::write(out, at, count_byte(list.len()));
     append(out, at, list)
 }
 
@@ -75,8 +75,8 @@ pub fn match_desc_rsp_error(
     if out.len() < 3 {
         return Err(Refusal::ShortBuffer);
     }
-    let at = write_u8(out, 0, seq);
-    let at = write_u8(out, at, error.code());
-    let at = write_u8(out, at, 0);
+    let at = u8::write(out, 0, seq);
+    let at = u8::write(out, at, error.code());
+    let at = u8::write(out, at, 0);
     Ok(at)
 }

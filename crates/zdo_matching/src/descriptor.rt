@@ -7,7 +7,7 @@ ghost use Rattle.zdo_device.specs.Checked.{pools_of};
 ghost use Rattle.zdo_matching.specs.Matching.{wanted, profile_matches, shared, matches, match_list, good_places, matching_endpoints, may_match, matched_with};
 ghost use Rattle.zdo_matching.specs.Answers.{matching_says};
 
-use byte::read_u16;
+use byte::Field;
 use zdo_device::descriptor::{DeviceDescriptorConfig, EndpointDescriptor, Side};
 use zdo_device::tables::Tables;
 use zdo_requests::descriptor::MatchDescReq;
@@ -136,7 +136,7 @@ fn shares(payload: &[u8], requested: Places, own: &[u16]) -> bool
 {
     let mut found = false;
     'search: for k in 0..requested.count {
-        let asked = read_u16(payload, requested.start + 2 * k);
+        let asked = u16::read(payload, requested.start + 2 * k);
         for cluster in own {
             if *cluster == asked.value {
                 found = true;

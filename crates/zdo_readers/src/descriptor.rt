@@ -3,7 +3,7 @@ ghost use Rattle.std.specs.Prelude.{◌≡◌};
 ghost use Rattle.zdo_readers.specs.Readers.{goes_further, server_mask_in, node_desc_rsp_in, stack_revision_of};
 ghost use Rattle.zigbee_types.specs.Answers.{says};
 
-use byte::{read_u8, read_u16};
+use byte::Field;
 use zdo_replies::descriptor::STATUS_SUCCESS;
 use zigbee_types::{Refusal, ShortAddress};
 
@@ -36,9 +36,9 @@ pub fn parse_node_desc_rsp(asdu: &[u8]) -> Result<NodeDescRsp, Refusal>
     if asdu.len() < 4 {
         return Err(Refusal::Malformed);
     }
-    let seq = read_u8(asdu, 0);
-    let status = read_u8(asdu, seq.next);
-    let nwk_addr_of_interest = read_u16(asdu, status.next);
+    let seq = u8::read(asdu, 0);
+    let status = u8::read(asdu, seq.next);
+    let nwk_addr_of_interest = u16::read(asdu, status.next);
     let server_mask = server_mask(asdu, status.value);
     Ok(NodeDescRsp {
         seq: seq.value,
@@ -56,6 +56,6 @@ fn server_mask(asdu: &[u8], status: u8) -> Option<u16>
     if status != STATUS_SUCCESS || asdu.len() < 14 {
         return None;
     }
-    let mask = read_u16(asdu, 12);
+    let mask = u16::read(asdu, 12);
     Some(mask.value)
 }

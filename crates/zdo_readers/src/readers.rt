@@ -5,7 +5,7 @@ ghost use Rattle.zigbee_types.specs.Outcome.{mapped};
 ghost use Rattle.zigbee_types.specs.Answers.{says};
 ghost use Rattle.zdo_readers.specs.Readers.{header_in, goes_further, node_with, node_reply_in, power_with, power_reply_in, associated_in, addr_reply_in, status_reply_in};
 
-use byte::{read_u8, read_u16, read_u64};
+use byte::Field;
 use node_descriptor::NodeDescriptor;
 use node_power_descriptor::NodePowerDescriptor;
 use zdo_replies::descriptor::STATUS_SUCCESS;
@@ -28,9 +28,9 @@ impl ReplyHeader {
         if reply.len() < 4 {
             return Err(Refusal::Malformed);
         }
-        let seq = read_u8(reply, 0);
-        let status = read_u8(reply, seq.next);
-        let nwk_addr_of_interest = read_u16(reply, status.next);
+        let seq = u8::read(reply, 0);
+        let status = u8::read(reply, seq.next);
+        let nwk_addr_of_interest = u16::read(reply, status.next);
         Ok(ReplyHeader {
             seq: seq.value,
             status: status.value,
@@ -122,10 +122,10 @@ impl AddrReply {
         if reply.len() < 12 {
             return Err(Refusal::Malformed);
         }
-        let seq = read_u8(reply, 0);
-        let status = read_u8(reply, seq.next);
-        let ieee_addr = read_u64(reply, status.next);
-        let nwk_addr = read_u16(reply, ieee_addr.next);
+        let seq = u8::read(reply, 0);
+        let status = u8::read(reply, seq.next);
+        let ieee_addr = u64::read(reply, status.next);
+        let nwk_addr = u16::read(reply, ieee_addr.next);
         let associated = read_associated(reply, status.value);
         Ok(AddrReply {
             seq: seq.value,
@@ -146,8 +146,8 @@ fn read_associated(reply: &[u8], status: u8) -> Option<Associated>
     if status != STATUS_SUCCESS || reply.len() < 14 {
         return None;
     }
-    let num_assoc_dev = read_u8(reply, 12);
-    let start_index = read_u8(reply, num_assoc_dev.next);
+    let num_assoc_dev = u8::read(reply, 12);
+    let start_index = u8::read(reply, num_assoc_dev.next);
     let start = start_index.next;
     let count = (reply.len() - start) / 2;
     Some(Associated {
@@ -175,8 +175,8 @@ impl StatusReply {
         if reply.len() < 2 {
             return Err(Refusal::Malformed);
         }
-        let seq = read_u8(reply, 0);
-        let status = read_u8(reply, seq.next);
+        let seq = u8::read(reply, 0);
+        let status = u8::read(reply, seq.next);
         Ok(StatusReply {
             seq: seq.value,
             status: status.value,

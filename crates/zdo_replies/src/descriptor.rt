@@ -6,7 +6,7 @@ ghost use Rattle.zdo_replies.specs.Codes.{bind_code, discovery_code, leave_statu
 ghost use Rattle.zdo_replies.specs.Replies.{status_rsp};
 
 use crate::management::NlmeLeaveStatus;
-use byte::write_u8;
+use byte::Field;
 use zigbee_types::Refusal;
 
 // ZDP status codes (2.4.5).
@@ -100,8 +100,8 @@ fn status_rsp(seq: u8, status: u8, out: &mut [u8]) -> Result<usize, Refusal>
     if out.len() < 2 {
         return Err(Refusal::ShortBuffer);
     }
-    let at = write_u8(out, 0, seq);
-    let at = write_u8(out, at, status);
+    let at = u8::write(out, 0, seq);
+    let at = u8::write(out, at, status);
     Ok(at)
 }
 

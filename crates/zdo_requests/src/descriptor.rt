@@ -5,7 +5,7 @@ ghost use Rattle.zigbee_types.specs.Answers.{says};
 ghost use Rattle.zdo_requests.specs.Requests.{nwk_addr_req_in, ieee_addr_req_in, addr_of_interest_req_in, addr_of_interest_in, simple_desc_req_in, node_desc_req, binding_of};
 
 use aps_binding::binding::Binding;
-use byte::{read_u8, read_u16, read_u64, write_u8, write_u16};
+use byte::Field;
 use zigbee_types::{GroupAddress, IeeeAddress, Places, Refusal, ShortAddress};
 
 // ZDP request cluster identifiers (2.4.3).
@@ -155,9 +155,9 @@ pub fn parse_nwk_addr_req(asdu: &[u8]) -> Result<NwkAddrReq, Refusal>
     if asdu.len() < 10 {
         return Err(Refusal::Malformed);
     }
-    let seq = read_u8(asdu, 0);
-    let ieee_addr = read_u64(asdu, seq.next);
-    let request_type = read_u8(asdu, ieee_addr.next);
+    let seq = u8::read(asdu, 0);
+    let ieee_addr = u64::read(asdu, seq.next);
+    let request_type = u8::read(asdu, ieee_addr.next);
     Ok(NwkAddrReq {
         seq: seq.value,
         ieee_addr: IeeeAddress(ieee_addr.value),
@@ -172,9 +172,9 @@ pub fn parse_ieee_addr_req(asdu: &[u8]) -> Result<IeeeAddrReq, Refusal>
     if asdu.len() < 4 {
         return Err(Refusal::Malformed);
     }
-    let seq = read_u8(asdu, 0);
-    let nwk_addr_of_interest = read_u16(asdu, seq.next);
-    let request_type = read_u8(asdu, nwk_addr_of_interest.next);
+    let seq = u8::read(asdu, 0);
+    let nwk_addr_of_interest = u16::read(asdu, seq.next);
+    let request_type = u8::read(asdu, nwk_addr_of_interest.next);
     Ok(IeeeAddrReq {
         seq: seq.value,
         nwk_addr_of_interest: ShortAddress(nwk_addr_of_interest.value),
@@ -192,8 +192,8 @@ pub fn parse_addr_of_interest_req(asdu: &[u8]) -> Result<AddrOfInterestReq, Refu
     if asdu.len() < 3 {
         return Err(Refusal::Malformed);
     }
-    let seq = read_u8(asdu, 0);
-    let nwk_addr_of_interest = read_u16(asdu, seq.next);
+    let seq = u8::read(asdu, 0);
+    let nwk_addr_of_interest = u16::read(asdu, seq.next);
     Ok(AddrOfInterestReq {
         seq: seq.value,
         nwk_addr_of_interest: ShortAddress(nwk_addr_of_interest.value),
@@ -217,9 +217,9 @@ pub fn parse_simple_desc_req(asdu: &[u8]) -> Result<SimpleDescReq, Refusal>
     if asdu.len() < 4 {
         return Err(Refusal::Malformed);
     }
-    let seq = read_u8(asdu, 0);
-    let nwk_addr_of_interest = read_u16(asdu, seq.next);
-    let endpoint = read_u8(asdu, nwk_addr_of_interest.next);
+    let seq = u8::read(asdu, 0);
+    let nwk_addr_of_interest = u16::read(asdu, seq.next);
+    let endpoint = u8::read(asdu, nwk_addr_of_interest.next);
     Ok(SimpleDescReq {
         seq: seq.value,
         nwk_addr_of_interest: ShortAddress(nwk_addr_of_interest.value),
@@ -240,7 +240,7 @@ pub fn node_desc_req(
     if out.len() < 3 {
         return Err(Refusal::ShortBuffer);
     }
-    let at = write_u8(out, 0, seq);
-    let at = write_u16(out, at, nwk_addr_of_interest.0);
+    let at = u8::write(out, 0, seq);
+    let at = u16::write(out, at, nwk_addr_of_interest.0);
     Ok(at)
 }

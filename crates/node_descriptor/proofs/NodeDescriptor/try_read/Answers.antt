@@ -14,13 +14,13 @@ pub returns : goal.returns
 unfolding size node_widths node_descriptor_in says
 returns c =
     run_parses _
-    (run_read_more c.read_u8-byte0.ensures
-    (run_read_more c.read_u8-byte1.ensures
-    (run_read_more c.read_u8-mac_capability_flags.ensures
-    (run_read_more c.read_u16-manufacturer_code.ensures
-    (run_read_more c.read_u8-maximum_buffer_size.ensures
-    (run_read_more c.read_u16-maximum_incoming_transfer_size.ensures
-    (run_read_more c.read_u16-server_mask.ensures
-    (run_read_more c.read_u16-maximum_outgoing_transfer_size.ensures
-    (run_read_more c.read_u8-descriptor_capability_field.ensures run_read_none)))))))))
+    (run_read_more c.read-byte0.ensures
+    (run_read_more c.read-byte1.ensures
+    (run_read_more c.read-mac_capability_flags.ensures
+    (run_read_more c.read-manufacturer_code.ensures
+    (run_read_more c.read-maximum_buffer_size.ensures
+    (run_read_more c.read-maximum_incoming_transfer_size.ensures
+    (run_read_more c.read-server_mask.ensures
+    (run_read_more c.read-maximum_outgoing_transfer_size.ensures
+    (run_read_more c.read-descriptor_capability_field.ensures run_read_none)))))))))
     c.if-bytes-lt-NODE_DESCRIPTOR_SIZE.false

@@ -19,10 +19,10 @@ returns c =
     c.if-count-gt-CLUSTERS.false
     c.if-out-count.false
     (front_put _
-    c.write_u8-at.ensures
-    c.write_u16-at.ensures
-    c.write_u16-at-2.ensures
+    c.write-at.ensures
+    c.write-at-2.ensures
+    c.write-at-3.ensures
     c.nibble.ensures
-    c.write_u8-at-2.ensures)
+    c.write-at-4.ensures)
     c.write_clusters-at.ensures
     c.write_clusters-at-2.ensures

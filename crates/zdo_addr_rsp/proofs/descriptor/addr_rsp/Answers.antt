@@ -16,13 +16,13 @@ pub returns-then-out-lt14 : goal.returns-then-out-lt14
 unfolding laid le addr_header
 returns-then-out-lt14 c = search laws
 
-pub write_u8-at-requires : goal.write_u8-at-requires
+pub write-at-requires : goal.write-at-requires
 unfolding laid le addr_header
-write_u8-at-requires c = search laws
+write-at-requires c = search laws
 
-pub write_u8-at-requires-2 : goal.write_u8-at-requires-2
+pub write-at-requires-2 : goal.write-at-requires-2
 unfolding laid le addr_header
-write_u8-at-requires-2 c = search laws
+write-at-requires-2 c = search laws
 
 pub returns : goal.returns
 unfolding laid le addr_header

@@ -11,10 +11,10 @@ returns-then-asdu-lt13 c = search laws
 pub returns-in_err-destination : goal.returns-in_err-destination
 returns-in_err-destination c =
     bind_refused
-    c.read_u8-seq.ensures
-    c.read_u64-src_address.ensures
-    c.read_u8-src_endpoint.ensures
-    c.read_u16-cluster_id.ensures
+    c.read-seq.ensures
+    c.read-src_address.ensures
+    c.read-src_endpoint.ensures
+    c.read-cluster_id.ensures
     _
     _
     c.in_err-destination.ensures

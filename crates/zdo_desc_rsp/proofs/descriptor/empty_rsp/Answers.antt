@@ -14,9 +14,9 @@ pub returns-then-out-lt5 : goal.returns-then-out-lt5
 unfolding says size laid le header empty_rsp
 returns-then-out-lt5 c = search laws
 
-pub write_u8-at-requires : goal.write_u8-at-requires
+pub write-at-requires : goal.write-at-requires
 unfolding says size laid le header empty_rsp
-write_u8-at-requires c = search laws
+write-at-requires c = search laws
 
 pub returns : goal.returns
 unfolding says size laid le header empty_rsp

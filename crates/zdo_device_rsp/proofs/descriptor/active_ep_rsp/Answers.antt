@@ -15,8 +15,8 @@ shared_ref_as_front-ep-items c = let w = c.in_ok-at.ensures in search laws
 pub loop-ep-init : goal.loop-ep-init
 loop-ep-init c = let w = c.in_ok-at.ensures in search laws
 
-pub write_u8-at-requires : goal.write_u8-at-requires
-write_u8-at-requires c = search laws
+pub write-at-requires : goal.write-at-requires
+write-at-requires c = search laws
 
 pub loop-ep-preserved : goal.loop-ep-preserved
 loop-ep-preserved c = search laws

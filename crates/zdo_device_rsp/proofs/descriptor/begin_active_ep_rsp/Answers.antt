@@ -9,8 +9,8 @@ ruleset laws = (rules, begun_many, begun_full, begun_writes)
 pub returns-then-out-count : goal.returns-then-out-count
 returns-then-out-count c = search laws
 
-pub write_u8-at-requires : goal.write_u8-at-requires
-write_u8-at-requires c = let at = header_place _ _ _ c.write_header-at.ensures in search laws
+pub write-at-requires : goal.write-at-requires
+write-at-requires c = let at = header_place _ _ _ c.write_header-at.ensures in search laws
 
 pub returns : goal.returns
 returns c = search laws

@@ -11,9 +11,9 @@ pub returns-then-out-list : goal.returns-then-out-list
 unfolding laid le header
 returns-then-out-list c = list_full _ _ _ _ (omega arith)
 
-pub write_u8-at-requires : goal.write_u8-at-requires
+pub write-at-requires : goal.write-at-requires
 unfolding laid le header
-write_u8-at-requires c = search rules
+write-at-requires c = search rules
 
 pub append-requires : goal.append-requires
 unfolding laid le header
@@ -21,4 +21,4 @@ append-requires c = search rules
 
 pub returns : goal.returns
 unfolding laid le header
-returns c = list_appended _ _ _ _ c.write_header-at.ensures c.count_byte.ensures c.write_u8-at.ensures c.append.ensures (omega arith)
+returns c = list_appended _ _ _ _ c.write_header-at.ensures c.count_byte.ensures c.write-at.ensures c.append.ensures (omega arith)

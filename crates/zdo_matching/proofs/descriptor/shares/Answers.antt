@@ -19,9 +19,9 @@ pub overflow_add-requested : goal.overflow_add-requested
 unfolding behind
 overflow_add-requested c = search laws
 
-pub read_u16-asked-requires : goal.read_u16-asked-requires
+pub read-asked-requires : goal.read-asked-requires
 unfolding behind
-read_u16-asked-requires c = search laws
+read-asked-requires c = search laws
 
 pub loop-cluster-init : goal.loop-cluster-init
 loop-cluster-init c = search laws
@@ -33,7 +33,7 @@ pub search-preserved : goal.search-preserved
 unfolding behind
 search-preserved c = (
   c.loop-cluster.invariant.0,
-  asked_next c.search.invariant.1 (search rules) c.read_u16-asked.ensures c.loop-cluster.invariant.1 (search rules),
+  asked_next c.search.invariant.1 (search rules) c.read-asked.ensures c.loop-cluster.invariant.1 (search rules),
 )
 
 pub returns-after-search : goal.returns-after-search

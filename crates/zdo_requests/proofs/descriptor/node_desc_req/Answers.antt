@@ -8,4 +8,4 @@ use Rattle.zdo_requests.proofs.descriptor.node_desc_req.Goals as goal
 
 pub returns : goal.returns
 unfolding says size addr_of_interest_fields node_desc_req
-returns c = run_writes (run_put_more c.write_u8-at.ensures (run_put_more c.write_u16-at.ensures run_put_none)) (omega arith)
+returns c = run_writes (run_put_more c.write-at.ensures (run_put_more c.write-at-2.ensures run_put_none)) (omega arith)

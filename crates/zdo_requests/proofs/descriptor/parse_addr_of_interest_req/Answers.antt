@@ -9,4 +9,4 @@ use Rattle.zdo_requests.proofs.descriptor.parse_addr_of_interest_req.Goals as go
 
 pub returns : goal.returns
 unfolding size addr_of_interest_widths addr_of_interest_req_in says
-returns c = two_parse _ c.read_u8-seq.ensures c.read_u16-nwk_addr_of_interest.ensures (omega arith) refl
+returns c = two_parse _ c.read-seq.ensures c.read-nwk_addr_of_interest.ensures (omega arith) refl

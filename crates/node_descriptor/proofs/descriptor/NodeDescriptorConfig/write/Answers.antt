@@ -14,13 +14,13 @@ pub returns : goal.returns
 unfolding says size node_descriptor_of
 returns c =
     run_writes
-    (run_put_told c.write_u8-at.ensures c.byte0.ensures
-    (run_put_told c.write_u8-at-2.ensures c.byte1.ensures
-    (run_put_more c.write_u8-at-3.ensures
-    (run_put_more c.write_u16-at.ensures
-    (run_put_more c.write_u8-at-4.ensures
-    (run_put_more c.write_u16-at-2.ensures
-    (run_put_more c.write_u16-at-3.ensures
-    (run_put_more c.write_u16-at-4.ensures
-    (run_put_more c.write_u8-at-5.ensures run_put_none)))))))))
+    (run_put_told c.write-at.ensures c.byte0.ensures
+    (run_put_told c.write-at-2.ensures c.byte1.ensures
+    (run_put_more c.write-at-3.ensures
+    (run_put_more c.write-at-4.ensures
+    (run_put_more c.write-at-5.ensures
+    (run_put_more c.write-at-6.ensures
+    (run_put_more c.write-at-7.ensures
+    (run_put_more c.write-at-8.ensures
+    (run_put_more c.write-at-9.ensures run_put_none)))))))))
     c.if-out-lt-NODE_DESCRIPTOR_SIZE.false

@@ -10,10 +10,10 @@ returns-then-reply-lt3 c = search laws
 
 pub returns-in_err-try_read : goal.returns-in_err-try_read
 returns-in_err-try_read c =
-    match_cut _ c.read_u8-seq.ensures c.read_u8-status.ensures _ _ (search rules) c.in_err-try_read.ensures (search rules)
+    match_cut _ c.read-seq.ensures c.read-status.ensures _ _ (search rules) c.in_err-try_read.ensures (search rules)
 
 pub returns-then-status-eq-STATUS_SUCCESS : goal.returns-then-status-eq-STATUS_SUCCESS
-returns-then-status-eq-STATUS_SUCCESS c = match_list_lem _ c.read_u8-seq.ensures c.read_u8-status.ensures _ (search rules) c.in_ok-try_read.ensures
+returns-then-status-eq-STATUS_SUCCESS c = match_list_lem _ c.read-seq.ensures c.read-status.ensures _ (search rules) c.in_ok-try_read.ensures
 
 pub returns : goal.returns
 returns c = search laws
