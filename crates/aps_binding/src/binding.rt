@@ -1,6 +1,7 @@
 // A binding maps a local endpoint and cluster onto a remote destination (004).
 ghost use Rattle.std.specs.Prelude.{◌≡◌};
 ghost use Rattle.aps_binding.specs.Entry.{group_binding, device_binding, routes, same};
+ghost use Rattle.aps_binding.specs.Same.{same_partial, same_equivalence};
 
 use zigbee_types::{GroupAddress, IeeeAddress};
 
@@ -64,16 +65,25 @@ impl Binding {
     {
         (self.src_endpoint == src_endpoint) & (self.cluster_id == cluster_id)
     }
+}
 
-    // Whether two entries are the same: in all six fields, as the Rust derives it.
-    pub fn eq(self, other: Binding) -> bool
-        ensures { result ≡ same self other }
-    {
+// Whether two entries are the same: in all six fields, as the Rust derives it. By hand, since a search compares entries: the field that
+// tells the most entries apart comes first, and no test is a branch.
+impl PartialEq for Binding {
+    ghost eq = { same };
+
+    ghost laws = { same_partial };
+
+    fn eq(&self, other: &Binding) -> bool {
         (self.cluster_id == other.cluster_id)
             & (self.src_endpoint == other.src_endpoint)
-            & (self.dst_ieee.0 == other.dst_ieee.0)
+            & (self.dst_ieee == other.dst_ieee)
             & (self.dst_endpoint == other.dst_endpoint)
-            & (self.dst_group.0 == other.dst_group.0)
+            & (self.dst_group == other.dst_group)
             & (self.dst_addr_mode == other.dst_addr_mode)
     }
+}
+
+impl Eq for Binding {
+    ghost laws = { same_equivalence };
 }

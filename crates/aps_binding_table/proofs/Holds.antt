@@ -10,7 +10,7 @@ use Rattle.zigbee_types.proofs.Elements.{any_last}
 use Rattle.aps_binding.specs.Entry.{same}
 use Rattle.aps_binding_table.specs.Held.{holds, without}
 use Rattle.aps_binding.specs.declared.binding.Binding.{Binding}
-use Rattle.aps_binding.proofs.Same.{same_refl, same_sym, same_like}
+use Rattle.aps_binding.specs.Same.{same_refl, same_sym, same_like}
 
 -- an entry is held where a same one is
 pub holds_like : (b c : Binding) (xs : List Binding) → same b c ≡ true → holds b xs ≡ holds c xs

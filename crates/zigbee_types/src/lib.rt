@@ -6,15 +6,15 @@ ghost use Rattle.std.specs.Prelude.{◌≡◌};
 ghost use Rattle.zigbee_types.specs.Refusals.{refusal_number};
 
 // A 64-bit extended address.
-#[derive(Clone, Copy)]
+#[derive(Clone, Copy, PartialEq, Eq, Debug)]
 pub struct IeeeAddress(pub u64);
 
 // A 16-bit network address.
-#[derive(Clone, Copy)]
+#[derive(Clone, Copy, PartialEq, Eq, Debug)]
 pub struct ShortAddress(pub u16);
 
 // A 16-bit group address.
-#[derive(Clone, Copy)]
+#[derive(Clone, Copy, PartialEq, Eq, Debug)]
 pub struct GroupAddress(pub u16);
 
 // Where a list stands in a payload: its first byte, and how many entries it has.
@@ -32,7 +32,7 @@ pub struct ClusterLists {
 }
 
 // Why a call was refused (document 01, "Refusal numbers").
-#[derive(Clone, Copy)]
+#[derive(Clone, Copy, PartialEq, Eq, Debug)]
 pub enum Refusal {
     BadTables,
     UnknownCluster,
@@ -41,12 +41,12 @@ pub enum Refusal {
     ShortBuffer,
 }
 
-impl Refusal {
-    // The number by which a refusal is told (document 01, "Refusal numbers").
-    pub fn number(self) -> u8
-        ensures { result ≡ refusal_number self }
-    {
-        match self {
+// The number by which a refusal is told (document 01, "Refusal numbers").
+impl From<Refusal> for u8 {
+    ghost from_gives = { λ why n. n ≡ refusal_number why };
+
+    fn from(why: Refusal) -> u8 {
+        match why {
             Refusal::BadTables => 1,
             Refusal::UnknownCluster => 2,
             Refusal::Malformed => 3,

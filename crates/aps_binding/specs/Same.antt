@@ -2,10 +2,11 @@
 -- or which of two same ones is asked. Assumes nothing.
 use Prim.Native.Nat.{ℕ}
 use mathlib.Core.Path.{◌≡◌, refl, sym}
-use mathlib.Core.Bool.{Bool, true, false, false≢true, and-eq-true_iff}
+use mathlib.Core.Bool.{true, false≢true, and-eq-true_iff}
 use mathlib.Core.List.{List, [], ◌∷◌}
 use lib.Dec.{eqb}
 use borrow.Author.Tests.{eqb-true, eq-eqb}
+use Rattle.std.specs.Cmp.{IsPartialEquivalence, IsEquivalence, partial_equiv_from_equiv, both_ways}
 use Rattle.aps_binding.specs.Entry.{key, alike, same}
 use Rattle.aps_binding.specs.declared.binding.Binding.{Binding}
 
@@ -38,16 +39,17 @@ key_same a b e = rw e (alike_refl (key b))
 pub same_refl : (a : Binding) → same a a ≡ true
 same_refl a = key_same a a refl
 
--- two tests that hold each where the other does are one
-one_test : (p q : Bool) → (p ≡ true → q ≡ true) → (q ≡ true → p ≡ true) → p ≡ q
-one_test true q f g = sym (f refl)
-one_test false true f g = g refl
-one_test false false f g = refl
-
 pub same_sym : (a b : Binding) → same a b ≡ same b a
-same_sym a b = one_test (same a b) (same b a) (λ e. key_same b a (sym (same_key a b e))) (λ e. key_same a b (sym (same_key b a e)))
+same_sym a b = both_ways (same a b) (same b a) (λ e. key_same b a (sym (same_key a b e))) (λ e. key_same a b (sym (same_key b a e)))
 
 -- same entries are the same as the same others
 pub same_like : (a b c : Binding) → same a b ≡ true → same a c ≡ same b c
 unfolding same
 same_like a b c e = rw (same_key a b e)
+
+-- so `==` is an equivalence
+pub same_equivalence : IsEquivalence same
+same_equivalence = record { refl = same_refl; symm = same_sym; congr = same_like }
+
+pub same_partial : IsPartialEquivalence same
+same_partial = partial_equiv_from_equiv same_equivalence
