@@ -1,5 +1,6 @@
 -- A bind request: the fields in front, then a destination by its mode. Assumes nothing.
 use Rattle.std.specs.Prelude.{Result, Ok, Err}
+use Rattle.std.specs.Result.{IsErr, IsErrAnd}
 use Prim.Native.Nat.{ℕ, ◌+◌, ◌≤◌, ◌<◌}
 use native.Mathlib.Omega.{arith}
 use mathlib.Core.Path.{◌≡◌}
@@ -12,10 +13,12 @@ use Rattle.zigbee_types.specs.Addresses.{ieee_of, group_of}
 use Rattle.zigbee_types.specs.declared.Refusal.{Refusal}
 use Rattle.zigbee_types.specs.declared.Refusal.TheVariants.{Malformed}
 use Rattle.zigbee_types.proofs.Fields.{number_at_past}
+use Rattle.zigbee_types.proofs.Passed.{passed_mapped}
 use Rattle.zigbee_types.proofs.Runs.{RunRead, run_read_none, run_read_more}
 use Rattle.aps_binding.specs.Entry.{GROUP, DEVICE}
 use Rattle.zdo_requests.specs.Requests.{group_in, device_in, destination_in, bind_widths, bind_req_of, bind_req_in}
 use Rattle.zigbee_types.specs.Answers.{says}
+use Rattle.zdo_requests.specs.declared.descriptor.BindReq.{BindReq}
 use Rattle.zdo_requests.specs.declared.descriptor.BindReqDestination.{BindReqDestination}
 use Rattle.zdo_requests.specs.declared.descriptor.BindReqDestination.TheVariants.{Group, Device}
 
@@ -71,27 +74,30 @@ bind_short bytes h = rw (number_at_past 1 bytes 12 (omega arith))
 
 -- the fields in front, and what the reader of the destination behind them said
 module _
-    {bytes : List ℕ} {u v w x i j k l : ℕ} (read : Result BindReqDestination Refusal)
+    {bytes : List ℕ} {u v w x i j k l : ℕ}
     (p : FieldRead 1 bytes 0 u i)
     (q : FieldRead 8 bytes i v j)
     (r : FieldRead 1 bytes j w k)
-    (s : FieldRead 2 bytes k x l)
-    (said : says read ≡ destination_in bytes l) where
-  behind : destination_in bytes 12 ≡ says read
-  behind = let place : l ≡ 12 = omega (arith, p.moved, q.moved, r.moved, s.moved) in rw (said, place)
+    (s : FieldRead 2 bytes k x l) where
+  there : l ≡ 12
+  there = omega (arith, p.moved, q.moved, r.moved, s.moved)
 
   pub bind_read :
-      {d : BindReqDestination}
-      → read ≡ Ok d
+      (d : BindReqDestination)
+      → says (Ok d) ≡ destination_in bytes l
       → says
       (Ok (record { seq = u; src_address = ieee_of v; src_endpoint = w; cluster_id = x; destination = d }))
       ≡ bind_req_in bytes
   unfolding says bind_req_in bind_widths bind_req_of mapped
-  bind_read e =
+  bind_read d said =
       let run : RunRead bind_widths bytes 0 (u ∷ v ∷ w ∷ x ∷ []) =
       run_read_more p (run_read_more q (run_read_more r (run_read_more s run_read_none))) in
-      rw (behind, e, ← run.told)
+      rw (← (rw there at said), ← run.told)
 
-  pub bind_refused : {why : Refusal} → read ≡ Err why → says (Err why) ≡ bind_req_in bytes
-  unfolding says bind_req_in mapped
-  bind_refused e = rw (behind, e)
+  pub bind_refused :
+      (why : Refusal) (refused : Result BindReq Refusal)
+      → says {A = BindReqDestination} (Err why) ≡ destination_in bytes l
+      → IsErr refused × IsErrAnd refused (λ e. e ≡ why)
+      → says refused ≡ bind_req_in bytes
+  unfolding bind_req_in
+  bind_refused why refused said handed = passed_mapped refused why (rw there at said) handed _

@@ -10,6 +10,7 @@ use lib.ListN.{length}
 use borrow.Author.Tests.{ne_eqb}
 use Rattle.zigbee_types.specs.Bytes.{FieldRead}
 use Rattle.zigbee_types.specs.Addresses.{ieee_of}
+use Rattle.zigbee_types.specs.declared.IeeeAddress.{IeeeAddress}
 use Rattle.zigbee_types.proofs.Bits.{mask_tells}
 use Rattle.zigbee_types.proofs.Runs.{three_parse}
 use Rattle.zdo_requests.specs.Requests.{option_ieee, mgmt_leave_req_in}

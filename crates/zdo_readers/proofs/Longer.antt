@@ -14,6 +14,7 @@ use Rattle.zigbee_types.specs.Layout.{size}
 use Rattle.zigbee_types.proofs.Runs.{run_read_none, run_read_more, run_parses, three_parse}
 use Rattle.zdo_readers.specs.Readers.{goes_further, header_widths, addr_widths, server_mask_in, node_desc_rsp_in, associated_in, addr_reply_in}
 use Rattle.zigbee_types.specs.Answers.{says}
+use Rattle.zdo_readers.specs.declared.readers.Associated.{Associated}
 
 -- ---- whether it goes on
 

@@ -18,6 +18,7 @@ use Rattle.zdo_readers.specs.declared.readers.ReplyHeader.{ReplyHeader}
 use Rattle.zdo_readers.specs.declared.readers.NodeReply.{NodeReply}
 use Rattle.zdo_readers.specs.declared.readers.PowerReply.{PowerReply}
 use Rattle.zdo_readers.specs.declared.readers.AddrReply.{AddrReply}
+use Rattle.zdo_readers.specs.declared.readers.Associated.{Associated}
 use Rattle.zdo_readers.specs.declared.readers.StatusReply.{StatusReply}
 
 -- seq, status, the address of interest: 4 bytes

@@ -8,8 +8,17 @@ ruleset laws = (rules, bind_short, bind_read, bind_refused)
 pub returns-then-asdu-lt13 : goal.returns-then-asdu-lt13
 returns-then-asdu-lt13 c = search laws
 
-pub returns-in-Destination : goal.returns-in-Destination
-returns-in-Destination c = search laws
+pub returns-in_err-destination : goal.returns-in_err-destination
+returns-in_err-destination c =
+    bind_refused
+    c.read_u8-seq.ensures
+    c.read_u64-src_address.ensures
+    c.read_u8-src_endpoint.ensures
+    c.read_u16-cluster_id.ensures
+    _
+    _
+    c.in_err-destination.ensures
+    c.from_residual.ensures
 
-pub returns-in-Refused : goal.returns-in-Refused
-returns-in-Refused c = search laws
+pub returns : goal.returns
+returns c = search laws

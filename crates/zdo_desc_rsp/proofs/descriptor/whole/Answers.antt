@@ -8,8 +8,8 @@ ruleset laws = (rules, whole_fits, whole_length)
 pub overflow_add-result : goal.overflow_add-result
 overflow_add-result c = search laws
 
-pub returns-in-Length : goal.returns-in-Length
-returns-in-Length c = search laws
+pub returns-in-Ok : goal.returns-in-Ok
+returns-in-Ok c = search laws
 
-pub returns-in-Refused : goal.returns-in-Refused
-returns-in-Refused c = whole_refused _ _ (search rules)
+pub returns-in-Err : goal.returns-in-Err
+returns-in-Err c = whole_refused _ _ (search rules)

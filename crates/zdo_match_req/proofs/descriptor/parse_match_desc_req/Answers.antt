@@ -8,8 +8,8 @@ ruleset laws = (rules, match_short, match_read_lem, match_refused)
 pub returns-then-asdu-lt5 : goal.returns-then-asdu-lt5
 returns-then-asdu-lt5 c = search laws
 
-pub returns-in-Lists : goal.returns-in-Lists
-returns-in-Lists c = search laws
+pub returns-in_err-lists : goal.returns-in_err-lists
+returns-in_err-lists c = match_refused c.read_u8-seq.ensures c.read_u16-nwk_addr_of_interest.ensures c.read_u16-profile_id.ensures _ _ c.in_err-lists.ensures c.from_residual.ensures
 
-pub returns-in-Refused : goal.returns-in-Refused
-returns-in-Refused c = search laws
+pub returns : goal.returns
+returns c = search laws
