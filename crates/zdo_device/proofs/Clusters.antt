@@ -1,5 +1,6 @@
 -- A record's parts of the two pools, and the part that an endpoint number has. Assumes nothing.
 use Rattle.std.specs.Prelude.{Option, Some, None}
+use Rattle.std.specs.Option.{is_some}
 use Prim.Native.Nat.{ℕ, ◌+◌, ◌≤◌}
 use mathlib.Core.Path.{◌≡◌}
 use mathlib.Core.Bool.{Bool, true, false, not, and-eq-true_iff}
@@ -44,23 +45,26 @@ module _ (p : Pools) (d : DeviceDescriptorConfig) (s : Side) (n : ℕ) (t : Bool
   unfolding endpoint_clusters
   clusters_bad bad = rw (said_no is bad)
 
-  module _ (fine : not t ≡ false) {q : Option EndpointDescriptor} (f : endpoint_says q ≡ endpoint_record d n) where
+  module _ (fine : not t ≡ false) {q : Option EndpointDescriptor} (f : q ≡ endpoint_record d n) where
     -- none, where there is no record
     pub clusters_none : q ≡ None → [] ≡ endpoint_clusters p d s n
-    unfolding endpoint_clusters option endpoint_says
+    unfolding endpoint_clusters option
     clusters_none e = rw (said_yes is fine, ← f, e)
 
     -- otherwise those of the record that is found
     pub clusters_found : {e : EndpointDescriptor} {xs : List ℕ} → q ≡ Some e → xs ≡ clusters_of s (endpoint_of p e) → xs ≡ endpoint_clusters p d s n
-    unfolding endpoint_clusters option endpoint_says
+    unfolding endpoint_clusters option
     clusters_found e h = rw (said_yes is fine, ← f, e) h
 
 -- a number is supported where a record is found
-module _ (d : DeviceDescriptorConfig) (n : ℕ) {q : Option EndpointDescriptor} (f : endpoint_says q ≡ endpoint_record d n) where
-  pub supports_some : {e : EndpointDescriptor} → q ≡ Some e → true ≡ supports_endpoint d n
-  unfolding supports_endpoint option endpoint_says
-  supports_some e = rw (← f, e)
-
-  pub supports_none : q ≡ None → false ≡ supports_endpoint d n
-  unfolding supports_endpoint option endpoint_says
-  supports_none e = rw (← f, e)
+pub supports_found :
+    (d : DeviceDescriptorConfig) (n : ℕ) {q : Option EndpointDescriptor} {t : Bool}
+    → q ≡ endpoint_record d n
+    → t ≡ is_some q
+    → t ≡ supports_endpoint d n
+unfolding supports_endpoint option
+supports_found d n {q} {t} f e = rw (← f) (go q e)
+  where
+    go : (q : Option EndpointDescriptor) → t ≡ is_some q → t ≡ option false (λ e. true) q
+    go None e = e
+    go (Some x) e = e

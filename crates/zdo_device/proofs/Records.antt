@@ -1,5 +1,8 @@
 -- The records in use, for a loop that goes through them, and what a check of them says. Assumes nothing.
+use Rattle.std.specs.Prelude as std
 use Rattle.std.specs.Prelude.{Option, Some, None}
+use Rattle.std.specs.List.{list_all}
+use Rattle.zdo_device.proofs.Chains.{same_find, same_all}
 use Prim.Native.Nat.{ℕ, ◌+◌, ◌≤◌, ◌<◌, min}
 use native.Mathlib.Numerals.{add-one}
 use native.Mathlib.Omega.{arith}
@@ -8,11 +11,11 @@ use mathlib.Core.Bool.{Bool, true, false, ◌&&◌, not, and-eq-true_iff}
 use mathlib.Core.List.{[], ◌∷◌, ◌++◌}
 use lib.Dec.{eqb, leb}
 use lib.ListN.{length, get_or, take, drop, drop_of_length-le, length-take}
-use lib.Seq.{take-suc, get_or-take}
-use borrow.Author.Tests.{eq-eqb, ne_eqb, leb-true, le-leb}
-use Rattle.zigbee_types.specs.Lists.{all, find}
+use lib.Seq.{take-suc, get_or-take, take_all}
+use borrow.Author.Tests.{leb-true, leb-false, le-leb}
+use Rattle.zigbee_types.specs.Lists.{all}
 use Rattle.zigbee_types.proofs.Elements.{front_next}
-use Rattle.zigbee_types.proofs.Scans.{all_left, all_here, all_next, all_end, find_here, find_next, find_end, find_all, said_no, said_yes}
+use Rattle.zigbee_types.proofs.Scans.{all_left, find_all, said_no}
 use Rattle.zdo_device.specs.Tables.{Pools, used, endpoint_record, record_fits, good_sizes, good_records, good_device}
 use Rattle.zdo_device.specs.declared.descriptor.EndpointDescriptor.{EndpointDescriptor}
 use Rattle.zdo_device.specs.declared.descriptor.DeviceDescriptorConfig.{DeviceDescriptorConfig}
@@ -82,40 +85,38 @@ module _ {d : DeviceDescriptorConfig} {n i : ℕ} (l : At d n i) where
 
 -- ---- the search for a number
 
--- the records before the i-th do not have the number
-pub record Sought (d : DeviceDescriptorConfig) (number n i : ℕ) : Type 0 where
-  pub at : At d n i
-  pub left : endpoint_record d number ≡ find (λ e. eqb e.endpoint number) (drop i (used d))
+-- the first 32 of the count's records are those in use
+used_few : (d : DeviceDescriptorConfig) → length d.endpoints ≡ 32 → take (min d.endpoint_count 32) d.endpoints ≡ used d
+unfolding used
+used_few d e = go (leb d.endpoint_count 32) refl
+  where
+    go : (few : Bool) → leb d.endpoint_count 32 ≡ few → take (min d.endpoint_count 32) d.endpoints ≡ take d.endpoint_count d.endpoints
+    go true f =
+        let h = leb-true _ _ f in
+        let same : min d.endpoint_count 32 ≡ d.endpoint_count = omega arith in
+        rw same
+    go false f =
+        let h = leb-false _ _ f in
+        let same : min d.endpoint_count 32 ≡ 32 = omega arith in
+        rw (same, take_all 32 d.endpoints (omega (arith, e)), take_all d.endpoint_count d.endpoints (omega (arith, e)))
 
--- of none, to begin with
-pub sought_first :
-    {d : DeviceDescriptorConfig} {number n : ℕ} → length d.endpoints ≡ 32 → n ≡ min d.endpoint_count 32 → Sought d number n 0
+-- what a search through them finds
+pub sought :
+    (d : DeviceDescriptorConfig) (number n : ℕ) {q : Option EndpointDescriptor}
+    → length d.endpoints ≡ 32
+    → n ≡ min d.endpoint_count 32
+    → q ≡ std.find (λ e. eqb e.endpoint number) (take n d.endpoints)
+    → q ≡ endpoint_record d number
 unfolding endpoint_record
-sought_first e h = record { at = at_first e h; left = refl }
-
-module _ {d : DeviceDescriptorConfig} {number n i : ℕ} (s : Sought d number n i) where
-  module _ (z : EndpointDescriptor) (h : i < n) where
-    -- the next one has it
-    pub sought_here : (get_or d.endpoints i z).endpoint ≡ number → endpoint_says (Some (get_or d.endpoints i z)) ≡ endpoint_record d number
-    unfolding endpoint_says
-    sought_here e = sym (s.left ∙ find_here _ (at_here s.at z h) (eq-eqb _ _ e))
-
-    -- nor has the next one
-    pub sought_next : ((get_or d.endpoints i z).endpoint ≡ number → ⊥) → Sought d number n (i + 1)
-    sought_next e = record { at = at_next s.at h; left = s.left ∙ find_next _ (at_here s.at z h) (ne_eqb _ _ e) }
-
-  -- there is no next
-  pub sought_end : n ≤ i → endpoint_says None ≡ endpoint_record d number
-  unfolding endpoint_says
-  sought_end h = sym (s.left ∙ find_end _ (at_end s.at h))
+sought d number n e few f = rw (f, few, used_few d e, same_find)
 
 -- ---- the check of the tables
 
 -- where the sizes are good, so is the number of records
-sizes_few : (n a b : ℕ) → good_sizes n a b ≡ true → n ≤ 32
+pub sizes_few : (n a b : ℕ) {t : Bool} → t ≡ good_sizes n a b → t ≡ true → n ≤ 32
 unfolding good_sizes
-sizes_few n a b g =
-    let (records, outputs) = (and-eq-true_iff (leb n 32 && leb a 512) (leb b 512)).0 g in
+sizes_few n a b is fine =
+    let (records, outputs) = (and-eq-true_iff (leb n 32 && leb a 512) (leb b 512)).0 (sym is ∙ fine) in
     leb-true n 32 ((and-eq-true_iff (leb n 32) (leb a 512)).0 records).0
 
 -- too many records or clusters
@@ -134,38 +135,20 @@ sizes_bad p d t e is bad = go (leb d.endpoint_count 32) refl
         let same : length (used d) ≡ d.endpoint_count = omega (arith, used_counted d e, leb-true d.endpoint_count 32 f) in
         rw (same, said_no is bad)
 
--- the records before the i-th fit
-pub record Checked (p : Pools) (d : DeviceDescriptorConfig) (n i : ℕ) : Type 0 where
-  pub at : At d n i
-  pub left : good_device p d ≡ all (record_fits p) (drop i (used d))
-
--- of none, to begin with
-pub checked_first :
-    (p : Pools) (d : DeviceDescriptorConfig) (t : Bool)
+-- where the sizes are good, a test of all says whether the tables are
+pub all_checked :
+    (p : Pools) (d : DeviceDescriptorConfig) {t r : Bool}
     → length d.endpoints ≡ 32
     → t ≡ good_sizes d.endpoint_count (length p.inputs) (length p.outputs)
-    → not t ≡ false
-    → Checked p d d.endpoint_count 0
-unfolding good_device good_records
-checked_first p d t e is fine =
-    let sizes : good_sizes d.endpoint_count (length p.inputs) (length p.outputs) ≡ true = said_yes is fine in
-    let few : d.endpoint_count ≤ 32 = sizes_few _ _ _ sizes in
-    let at : At d d.endpoint_count 0 = at_first e (omega arith) in
-    record { at = at; left = rw (at.counted, le-leb _ _ few, sizes) }
-
-module _ {p : Pools} {d : DeviceDescriptorConfig} {n i : ℕ} (c : Checked p d n i) where
-  module _ (z : EndpointDescriptor) (h : i < n) {t : Bool} (is : t ≡ record_fits p (get_or d.endpoints i z)) where
-    -- the next one does not
-    pub checked_here : not t ≡ true → false ≡ good_device p d
-    checked_here bad = sym (c.left ∙ all_here _ (at_here c.at z h) (said_no is bad))
-
-    -- so does the next one
-    pub checked_next : not t ≡ false → Checked p d n (i + 1)
-    checked_next fine = record { at = at_next c.at h; left = c.left ∙ all_next _ (at_here c.at z h) (said_yes is fine) }
-
-  -- all do
-  pub checked_end : n ≤ i → true ≡ good_device p d
-  checked_end h = sym (c.left ∙ all_end _ (at_end c.at h))
+    → t ≡ true
+    → r ≡ list_all (record_fits p) (take d.endpoint_count d.endpoints)
+    → r ≡ good_device p d
+unfolding good_device good_records used
+all_checked p d e is fine f =
+    let few : d.endpoint_count ≤ 32 = sizes_few _ _ _ is fine in
+    let many : length (take d.endpoint_count d.endpoints) ≡ d.endpoint_count = rw length-take (omega (arith, e)) in
+    let sizes : good_sizes d.endpoint_count (length p.inputs) (length p.outputs) ≡ true = sym is ∙ fine in
+    rw (f, le-leb _ _ few, many, sizes, same_all)
 
 -- ---- good tables
 
@@ -185,6 +168,6 @@ module _ (p : Pools) (d : DeviceDescriptorConfig) (g : good_device p d ≡ true)
 
   -- and so does the one that is found
   pub good_found :
-      (number : ℕ) {q : Option EndpointDescriptor} {e : EndpointDescriptor} → q ≡ Some e → endpoint_says q ≡ endpoint_record d number → record_fits p e ≡ true
-  unfolding endpoint_says endpoint_record
+      (number : ℕ) {q : Option EndpointDescriptor} {e : EndpointDescriptor} → q ≡ Some e → q ≡ endpoint_record d number → record_fits p e ≡ true
+  unfolding endpoint_record
   good_found number is f = find_all _ (record_fits p) (used d) good_fit (sym (rw is at f))

@@ -1,6 +1,6 @@
 -- Device tables: endpoint records, and the two pools of clusters that they point into (document 01, "Device tables and
 -- sizes").
-use Rattle.std.specs.Prelude.{ℕ, ◌+◌, Bool, true, false, ◌&&◌, cond, List, [], map, eqb, leb, length, take, Option, Some, None}
+use Rattle.std.specs.Prelude.{ℕ, ◌+◌, Bool, true, false, ◌&&◌, cond, List, [], map, eqb, leb, length, take, Option}
 use Rattle.zigbee_types.specs.Lists.{part, all, find, option}
 use Rattle.simple_descriptor.specs.SimpleDescriptor.{Endpoint, endpoint_with}
 use Rattle.zdo_device.specs.declared.descriptor.EndpointDescriptor.{EndpointDescriptor}

@@ -60,27 +60,19 @@ impl DeviceDescriptorConfig {
     pub fn endpoint(self, endpoint: u8) -> Option<EndpointDescriptor>
         ensures { result ≡ endpoint_record self endpoint }
     {
-        let count = in_use(self.endpoint_count);
-        let mut i: usize = 0;
-        while i < count {
-            let ep = self.endpoints[i];
-            if ep.endpoint == endpoint {
-                return Some(ep);
-            }
-            i += 1;
-        }
-        None
+        let count = self.endpoint_count.min(RECORDS);
+        self.endpoints[..count]
+            .iter()
+            .find(|ep| ep.endpoint == endpoint)
+            .copied()
     }
 
     // Whether the device implements the given endpoint.
+    #[tactic(auto, using(crate::proofs::Clusters::supports_found))]
     pub fn supports_endpoint(self, endpoint: u8) -> bool
         ensures { result ≡ supports_endpoint self endpoint }
     {
-        let found = self.endpoint(endpoint);
-        match found {
-            Some(_) => true,
-            None => false,
-        }
+        self.endpoint(endpoint).is_some()
     }
 
     // Whether the device's tables are good, with these pools (document 01, refusal 1).
@@ -91,15 +83,9 @@ impl DeviceDescriptorConfig {
         if !good_sizes(count, inputs.len(), outputs.len()) {
             return false;
         }
-        let mut i: usize = 0;
-        while i < count {
-            let ep = self.endpoints[i];
-            if !ep.fits(inputs, outputs) {
-                return false;
-            }
-            i += 1;
-        }
-        true
+        self.endpoints[..count]
+            .iter()
+            .all(|ep| ep.fits(inputs, outputs))
     }
 
     // An endpoint's part of the input pool or of the output pool, as the side says. (Added by document 01.) Empty where there is
@@ -129,16 +115,6 @@ impl DeviceDescriptorConfig {
 pub enum Side {
     Input,
     Output,
-}
-
-// How many records a count reaches: 32 for a greater one.
-fn in_use(count: usize) -> usize
-    ensures { result ≡ min count 32 }
-{
-    if count > RECORDS {
-        return RECORDS;
-    }
-    count
 }
 
 // Whether so many records and clusters are not too many.

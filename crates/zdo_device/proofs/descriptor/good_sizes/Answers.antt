@@ -1,5 +1,4 @@
 -- `good_sizes` meets its contract: each test is one of the three. Assumes nothing.
-use Rattle.std.proofs.Common.{rules}
 use mathlib.Core.Path.{refl}
 use Rattle.zdo_device.specs.Tables.{good_sizes}
 use Rattle.zdo_device.proofs.descriptor.good_sizes.Goals as goal

@@ -1,21 +1,20 @@
--- `DeviceDescriptorConfig::endpoint` meets its contract. The loop's invariant: the first i records were passed by. The measure is
--- how many are left. Assumes nothing.
-use Prim.Native.Nat.{◌-◌}
-use borrow.Author.Rules.{rules}
+-- `DeviceDescriptorConfig::endpoint` meets its contract: the chain finds the first of the records in use. Assumes nothing.
+use Rattle.std.proofs.Common.{rules}
+use borrow.Author.Tests.{tests}
+use Rattle.std.proofs.lemmas.Iterator.{YieldsList-from_slice}
+use Rattle.std.proofs.lemmas.Iterator.Search.{find_from_yields_List}
+use mathlib.Core.Path.{◌∙◌}
+use lib.Dec.{eqb}
+use lib.ListN.{take}
+use mathlib.Core.Bool.{Bool}
+use Rattle.zdo_device.specs.declared.descriptor.EndpointDescriptor.{EndpointDescriptor}
 use Rattle.zigbee_types.proofs.Elements.{length_mapped}
-use Rattle.zdo_device.proofs.Records.{Sought, sought_first, sought_here, sought_next, sought_end}
+use Rattle.zdo_device.proofs.Records.{sought}
 use Rattle.zdo_device.proofs.descriptor.DeviceDescriptorConfig.endpoint.Goals as goal
 
-ruleset laws = (rules, length_mapped, sought_first, sought_here, sought_next, sought_end)
-
-pub loop-i-init : goal.loop-i-init
-loop-i-init c = search laws
-
-pub returns-then-ep-endpoint : goal.returns-then-ep-endpoint
-returns-then-ep-endpoint c = search laws
-
-pub loop-i-preserved : goal.loop-i-preserved
-loop-i-preserved c = sought_next c.loop-i.invariant _ (search rules) c.if-ep-endpoint.false
-
 pub returns : goal.returns
-returns c = search laws
+returns c =
+    let has : EndpointDescriptor → Bool = λ e. eqb e.endpoint c.args.endpoint in
+    let from = YieldsList-from_slice (take c.min-count.result c.args.self.endpoints) cc in
+    let found = c.copied.ensures ∙ find_from_yields_List has _ _ c.find.result c.find.ensures.ran from (λ x b q k. search (rules, tests)) in
+    search (rules, length_mapped, sought)

@@ -1,25 +1,24 @@
--- `DeviceDescriptorConfig::good_tables` meets its contract. The loop's invariant: the first i records fit. The measure is how many
--- are left. Assumes nothing.
-use Prim.Native.Nat.{◌-◌}
-use borrow.Author.Rules.{rules}
+-- `DeviceDescriptorConfig::good_tables` meets its contract: the chain tests the records in use. Assumes nothing.
+use Rattle.std.proofs.Common.{rules}
+use borrow.Author.Tests.{tests}
+use Rattle.std.proofs.lemmas.Iterator.{YieldsList-from_slice}
+use Rattle.std.proofs.lemmas.Iterator.Search.{all_from_yields_List}
+use lib.ListN.{take}
 use Rattle.zigbee_types.proofs.Elements.{length_mapped}
-use Rattle.zdo_device.specs.Tables.{pools}
-use Rattle.zdo_device.proofs.Records.{Checked, sizes_bad, checked_first, checked_here, checked_next, checked_end}
+use Rattle.zdo_device.specs.Tables.{pools, record_fits}
+use Rattle.zdo_device.proofs.Records.{sizes_bad, sizes_few, all_checked}
 use Rattle.zdo_device.proofs.descriptor.DeviceDescriptorConfig.good_tables.Goals as goal
 
-ruleset laws = (rules, length_mapped, sizes_bad, checked_first, checked_here, checked_next, checked_end)
+ruleset laws = (rules, length_mapped, sizes_bad, sizes_few)
 
 pub returns-then-not-good_sizes : goal.returns-then-not-good_sizes
 returns-then-not-good_sizes c = search laws
 
-pub loop-i-init : goal.loop-i-init
-loop-i-init c = search laws
-
-pub returns-then-not-fits : goal.returns-then-not-fits
-returns-then-not-fits c = search laws
-
-pub loop-i-preserved : goal.loop-i-preserved
-loop-i-preserved c = search laws
+pub shared_ref_as_front-iter : goal.shared_ref_as_front-iter
+shared_ref_as_front-iter c = search laws
 
 pub returns : goal.returns
-returns c = search laws
+returns c =
+    let from = YieldsList-from_slice (take c.args.self.endpoint_count c.args.self.endpoints) cc in
+    let all = all_from_yields_List (record_fits (pools c.args.inputs.now c.args.outputs.now)) _ _ c.all.result c.all.ensures.ran from (λ x b q k. search (rules, tests)) in
+    search (laws, all_checked)

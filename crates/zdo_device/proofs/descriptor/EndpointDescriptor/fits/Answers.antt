@@ -1,5 +1,4 @@
 -- `EndpointDescriptor::fits` meets its contract: each test is one of the two. Assumes nothing.
-use borrow.Author.Rules.{rules}
 use Rattle.zdo_device.specs.Tables.{record_fits}
 use Rattle.zdo_device.proofs.descriptor.EndpointDescriptor.fits.Goals as goal
 
