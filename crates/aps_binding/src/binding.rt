@@ -67,8 +67,8 @@ impl Binding {
     }
 }
 
-// Whether two entries are the same: in all six fields, as the Rust derives it. By hand, since a search compares entries: the field that
-// tells the most entries apart comes first, and no test is a branch.
+// Whether two entries are the same: in all six fields, as the Rust derives it. Written by hand for speed, since a search compares
+// entries: the field that tells the most of them apart comes first, and no test is a branch.
 impl PartialEq for Binding {
     ghost eq = { same };
 

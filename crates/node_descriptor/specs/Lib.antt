@@ -1,2 +1,3 @@
 pub mod NodeDescriptor
 pub mod Bits
+pub mod Defaults

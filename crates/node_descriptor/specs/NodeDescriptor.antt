@@ -1,8 +1,6 @@
 -- The node descriptor (2.3.2.3): thirteen bytes that say what a device is (document 01, module 2).
-use Rattle.std.specs.Prelude.{ℕ, ◌+◌, ◌*◌, ◌/◌, ◌%◌, false, List, [], ◌∷◌, Result, Ok, Err}
-use Rattle.zigbee_types.specs.declared.Refusal.{Refusal}
-use Rattle.zigbee_types.specs.Outcome.{Outcome, answer, refusal}
-use Rattle.zigbee_types.specs.Refusals.{refusal_number}
+use Rattle.std.specs.Prelude.{ℕ, ◌+◌, ◌*◌, ◌/◌, ◌%◌, false, List, [], ◌∷◌}
+use Rattle.zigbee_types.specs.Outcome.{Outcome}
 use Rattle.zigbee_types.specs.Bytes.{bit, bit_at}
 use Rattle.zigbee_types.specs.Layout.{Field, byte, word, parsed}
 use Rattle.zigbee_types.specs.Named.{named}

@@ -3,14 +3,15 @@ ghost use Rattle.std.specs.Prelude.{◌≡◌};
 ghost use Rattle.zigbee_types.specs.Outcome.{answer, Wrote};
 ghost use Rattle.zigbee_types.specs.Answers.{says};
 ghost use Rattle.zigbee_types.specs.Layout.{laid};
-ghost use Rattle.node_descriptor.specs.NodeDescriptor.{default_node, node_byte0, node_byte1, node_descriptor_of};
+ghost use Rattle.node_descriptor.specs.NodeDescriptor.{node_byte0, node_byte1, node_descriptor_of};
 
 use crate::{LogicalType, NODE_DESCRIPTOR_SIZE};
 use byte::{write_u8, write_u16};
 use zigbee_types::Refusal;
 
-// Static configuration of the node descriptor (2.3.2.3).
-#[derive(Clone, Copy)]
+// Static configuration of the node descriptor (2.3.2.3). Its default says that the device is a router, and zero elsewhere
+// (document 01, module 2; specs/Defaults.antt).
+#[derive(Clone, Copy, Debug, Default)]
 pub struct NodeDescriptorConfig {
     pub logical_type: LogicalType,
     pub complex_descriptor_available: bool,
@@ -28,26 +29,8 @@ pub struct NodeDescriptorConfig {
 }
 
 impl NodeDescriptorConfig {
-    // What an unfilled configuration says: a router, and zero elsewhere (document 01, module 2).
-    pub fn default() -> NodeDescriptorConfig
-        ensures { result ≡ default_node }
-    {
-        NodeDescriptorConfig {
-            logical_type: LogicalType::default(),
-            complex_descriptor_available: false,
-            user_descriptor_available: false,
-            frequency_band: 0,
-            mac_capability_flags: 0,
-            manufacturer_code: 0,
-            maximum_buffer_size: 0,
-            maximum_incoming_transfer_size: 0,
-            server_mask: 0,
-            maximum_outgoing_transfer_size: 0,
-            descriptor_capability_field: 0,
-        }
-    }
-
     // Type, complex and user bit (2.3.2.3.1 to 2.3.2.3.3).
+    #[tactic(auto, using(crate::proofs::Packed::type_packed), unfolding(crate::specs::NodeDescriptor::node_byte0))]
     fn byte0(self) -> u8
         ensures { result ≡ node_byte0 self }
     {
@@ -58,6 +41,7 @@ impl NodeDescriptorConfig {
     }
 
     // APS flags (3 bits, always 0) and frequency band (5 bits) (2.3.2.3.4, 2.3.2.3.5).
+    #[tactic(auto, using(crate::proofs::Packed::band_packed), unfolding(crate::specs::NodeDescriptor::node_byte1))]
     fn byte1(self) -> u8
         ensures { result ≡ node_byte1 self }
     {

@@ -4,7 +4,7 @@
 pub mod descriptor;
 
 ghost use Rattle.std.specs.Prelude.{◌≡◌, ◌%◌};
-ghost use Rattle.node_descriptor.specs.NodeDescriptor.{type_number, type_bits, logical_type_of, default_type, node_descriptor_in, node_fields};
+ghost use Rattle.node_descriptor.specs.NodeDescriptor.{type_number, type_bits, logical_type_of, node_descriptor_in, node_fields};
 ghost use Rattle.zigbee_types.specs.Answers.{says};
 
 use byte::{bit_at, read_u8, read_u16};
@@ -14,9 +14,11 @@ use zigbee_types::Refusal;
 pub(crate) const NODE_DESCRIPTOR_SIZE: usize = 13;
 
 // Logical type field (2.3.2.3.1): device type of the Zigbee node.
-#[derive(Clone, Copy)]
+#[derive(Clone, Copy, PartialEq, Eq, Debug, Default)]
 pub enum LogicalType {
     Coordinator,
+    // The type of a device that says nothing else (document 01, module 2; specs/Defaults.antt).
+    #[default]
     Router,
     EndDevice,
     Reserved(u8),
@@ -30,13 +32,6 @@ fn type_bits(x: u8) -> u8
 }
 
 impl LogicalType {
-    // The type of a device that says nothing else (document 01, module 2).
-    pub fn default() -> LogicalType
-        ensures { result ≡ default_type }
-    {
-        LogicalType::Router
-    }
-
     // The three bits that are written for a type (2.3.2.3.1).
     pub(crate) fn bits(self) -> u8
         ensures { result ≡ type_bits self }
@@ -57,6 +52,7 @@ impl LogicalType {
     }
 
     // The type that a number names (2.3.2.3.1).
+    #[tactic(auto, unfolding(crate::specs::NodeDescriptor::logical_type_of, zigbee_types::specs::Named::named, zigbee_types::specs::Lists::option, zigbee_types::specs::Lists::find))]
     fn from_bits(bits: u8) -> LogicalType
         ensures { result ≡ logical_type_of bits }
     {

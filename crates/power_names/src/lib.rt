@@ -7,7 +7,7 @@ ghost use Rattle.power_names.specs.Names.{mode_number, mode_bits, current_power_
 use byte::nibble;
 
 // Current power mode field (2.3.2.4.1).
-#[derive(Clone, Copy)]
+#[derive(Clone, Copy, PartialEq, Eq, Debug)]
 pub enum CurrentPowerMode {
     // Synchronized with the receiver-on-when-idle subfield of the node descriptor.
     Synchronized,
@@ -54,7 +54,7 @@ impl CurrentPowerMode {
 
 // A power source of the node, as its bit in the available power sources (2.3.2.4.2) and current power source (2.3.2.4.3)
 // fields, which share a bit assignment.
-#[derive(Clone, Copy)]
+#[derive(Clone, Copy, PartialEq, Eq, Debug)]
 pub enum PowerSource {
     ConstantMainPower,
     RechargeableBattery,
@@ -100,17 +100,15 @@ impl PowerSource {
         ensures { result ≡ source_bitmap sources.now }
     {
         let mut bits: u8 = 0;
-        let mut i: usize = 0;
-        while i < sources.len() {
-            bits |= nibble(sources[i]);
-            i += 1;
+        for source in sources {
+            bits |= nibble(*source);
         }
         bits
     }
 }
 
 // Current power source level field (2.3.2.4.4).
-#[derive(Clone, Copy)]
+#[derive(Clone, Copy, PartialEq, Eq, Debug)]
 pub enum CurrentPowerSourceLevel {
     Critical,
     OneThird,

@@ -1,6 +1,7 @@
 -- Replies that carry a list behind the header: where it stands and why they are refused; and the match reply, by its status.
 -- Assumes nothing.
 use Rattle.std.specs.Prelude.{Result, Ok, Err}
+use Rattle.std.specs.Result.{IsErr, IsErrAnd}
 use Prim.Native.Nat.{ℕ, ◌+◌, ◌*◌, ◌≤◌, ◌<◌}
 use native.Mathlib.Omega.{arith}
 use mathlib.Core.Path.{◌≡◌, refl, sym}
@@ -10,7 +11,7 @@ use lib.Dec.{eqb}
 use lib.ListN.{length}
 use borrow.Author.Tests.{ne_eqb, le-leb, lt-leb}
 use Rattle.zigbee_types.specs.declared.Refusal.{Refusal}
-use Rattle.zigbee_types.specs.Outcome.{Outcome, refusal, and_then, mapped, needing}
+use Rattle.zigbee_types.specs.Outcome.{refusal, and_then, mapped, needing}
 use Rattle.zigbee_types.specs.Bytes.{number_at, FieldRead}
 use Rattle.zigbee_types.specs.Layout.{size, counted, behind}
 use Rattle.zigbee_types.specs.Statuses.{SUCCESS}
@@ -19,11 +20,13 @@ use Rattle.zigbee_types.proofs.Fields.{read_byte}
 use Rattle.zigbee_types.proofs.Runs.{three_parse, run_short}
 use Rattle.zigbee_types.proofs.Counted.{list_counted}
 use Rattle.zigbee_types.proofs.Outcomes.{held, answered}
+use Rattle.zigbee_types.proofs.Passed.{passed_mapped}
 use Rattle.zdo_readers.specs.Readers.{header_widths, header_in}
 use Rattle.zdo_readers.specs.declared.readers.ReplyHeader.{ReplyHeader}
 use Rattle.zdo_list_readers.specs.ListReaders.{list_behind, list_reply_in, match_error_widths, match_reply_in_as, match_reply_in}
 use Rattle.zigbee_types.specs.Answers.{says}
 use Rattle.zdo_list_readers.specs.declared.readers.ListReply.{ListReply}
+use Rattle.zdo_list_readers.specs.declared.readers.MatchReply.{MatchReply}
 use Rattle.zdo_list_readers.specs.declared.readers.MatchReply.TheVariants.{Matched, Failed}
 
 -- ---- a list behind a header: `behind` leans on these. Where the list ends and begins is said by arithmetic, so that another expression of
@@ -49,13 +52,12 @@ module _ (h : ReplyHeader) (bytes : List ℕ) where
 
 -- a list that was read is whole
 pub list_long :
-    (bytes : List ℕ) (l : ListReply) (read : Result ListReply Refusal)
-    → says read ≡ list_reply_in bytes
-    → read ≡ Ok l
+    (bytes : List ℕ) (l : ListReply)
+    → says (Ok l) ≡ list_reply_in bytes
     → behind 1 l.list ≤ length bytes
 unfolding says list_reply_in list_behind
-list_long bytes l read said e =
-    let (h, _, came) = answered (header_in bytes) (λ x. list_behind x bytes) (rw e at (sym said)) in
+list_long bytes l said =
+    let (h, _, came) = answered (header_in bytes) (λ x. list_behind x bytes) (sym said) in
     let (whole, same) = held (behind 1 (counted bytes 4)) bytes _ came in
     let place : l.list ≡ counted bytes 4 = cc same in
     rw place whole
@@ -78,13 +80,21 @@ module _ (bytes : List ℕ) where
 
     -- with SUCCESS it is the list that was read
     pub match_list_lem :
-        {told : Outcome _} (read : Result ListReply Refusal)
+        (l : ListReply)
         → v ≡ SUCCESS
-        → told ≡ mapped Matched (says read)
-        → says read ≡ list_reply_in bytes
-        → told ≡ match_reply_in bytes
+        → says (Ok l) ≡ list_reply_in bytes
+        → says (Ok (Matched l)) ≡ match_reply_in bytes
+    unfolding says match_reply_in match_reply_in_as mapped
+    match_list_lem l ok said = rw (← status, ok, ← said)
+
+    pub match_cut :
+        (r : Result MatchReply Refusal) (why : Refusal)
+        → v ≡ SUCCESS
+        → says {A = ListReply} (Err why) ≡ list_reply_in bytes
+        → IsErr r × IsErrAnd r (λ e. e ≡ why)
+        → says r ≡ match_reply_in bytes
     unfolding match_reply_in match_reply_in_as
-    match_list_lem read ok t r = rw (← status, ok, ← r) t
+    match_cut r why ok said handed = rw (← status, ok) (passed_mapped r why said handed Matched)
 
     -- with another status the first two bytes, and nothing else
     pub match_failed : (v ≡ SUCCESS → ⊥) → 3 ≤ length bytes → says (Ok (Failed (record { seq = u; status = v }))) ≡ match_reply_in bytes

@@ -1,5 +1,6 @@
 -- A descriptor within its length: none, or what was read of it, its lists counted from the start of the reply. Assumes nothing.
 use Rattle.std.specs.Prelude.{Some, None, Result, Ok, Err}
+use Rattle.std.specs.Result.{IsErr, IsErrAnd}
 use Prim.Native.Nat.{ℕ, ◌+◌, ◌-◌, ◌^◌, ◌≤◌, ◌<◌}
 use native.Mathlib.Omega.{arith}
 use mathlib.Core.Path.{◌≡◌, sym}
@@ -16,6 +17,7 @@ use Rattle.zigbee_types.specs.declared.ClusterLists.{ClusterLists}
 use Rattle.zigbee_types.specs.declared.Refusal.{Refusal}
 use Rattle.zigbee_types.proofs.Outcomes.{granted, mapped_granted}
 use Rattle.zigbee_types.proofs.Parts.{part_is}
+use Rattle.zigbee_types.proofs.Passed.{passed_mapped}
 use Rattle.simple_descriptor.specs.SimpleDescriptor.{simple_widths, simple_of, simple_descriptor_in}
 use Rattle.zigbee_types.specs.Answers.{says}
 use Rattle.simple_descriptor.specs.declared.SimpleDescriptorFields.{SimpleDescriptorFields}
@@ -29,41 +31,39 @@ module _ (l : ListReply) (bytes : List ℕ) where
   unfolding says simple_within
   within_none e = rw e
 
-  module _
-      (read : Result SimpleDescriptorFields Refusal) (end : ℕ)
-      (long : l.list.count ≡ 0 → ⊥)
-      (said : says read ≡ simple_descriptor_in (take (end - l.list.start) (drop l.list.start bytes)))
-      (to : end ≡ l.list.start + l.list.count)
-    where
-      there : says read ≡ simple_descriptor_in (part l.list.start l.list.count bytes)
-      there = rw (part_is bytes l.list.start end l.list.count to) at said
+  module _ (end : ℕ) (long : l.list.count ≡ 0 → ⊥) (to : end ≡ l.list.start + l.list.count) where
+    there : take (end - l.list.start) (drop l.list.start bytes) ≡ part l.list.start l.list.count bytes
+    there = part_is bytes l.list.start end l.list.count to
 
-      -- refused where no descriptor was read
-      pub within_refused : {why : Refusal} → read ≡ Err why → says (Err why) ≡ simple_within l bytes
-      unfolding says simple_within mapped
-      within_refused e = rw (ne_eqb _ _ long, ← there, e)
+    -- refused where no descriptor was read
+    pub within_refused :
+        (r : Result SimpleReply Refusal) (why : Refusal)
+        → says {A = SimpleDescriptorFields} (Err why) ≡ simple_descriptor_in (take (end - l.list.start) (drop l.list.start bytes))
+        → IsErr r × IsErrAnd r (λ e. e ≡ why)
+        → says r ≡ simple_within l bytes
+    unfolding simple_within
+    within_refused r why said handed = rw (ne_eqb _ _ long) (passed_mapped r why (rw there at said) handed _)
 
-      -- otherwise what was read, moved to its place
-      pub within_read :
-          {d f : SimpleDescriptorFields}
-          → read ≡ Ok d
-          → f ≡ shifted_fields l.list.start d
-          → says (Ok (record { header = l.header; descriptor = Some f })) ≡ simple_within l bytes
-      unfolding says simple_within mapped
-      within_read e is = rw (ne_eqb _ _ long, ← there, e, is)
+    -- otherwise what was read, moved to its place
+    pub within_read :
+        {f : SimpleDescriptorFields} (d : SimpleDescriptorFields)
+        → says (Ok d) ≡ simple_descriptor_in (take (end - l.list.start) (drop l.list.start bytes))
+        → f ≡ shifted_fields l.list.start d
+        → says (Ok (record { header = l.header; descriptor = Some f })) ≡ simple_within l bytes
+    unfolding says simple_within mapped
+    within_read d said is = rw (ne_eqb _ _ long, ← (rw there at said), is)
 
 -- lists that were read end within the bytes
 pub lists_end :
-    (bytes : List ℕ) (read : Result SimpleDescriptorFields Refusal) {d : SimpleDescriptorFields}
-    → says read ≡ simple_descriptor_in bytes
-    → read ≡ Ok d
+    (bytes : List ℕ) (d : SimpleDescriptorFields)
+    → says (Ok d) ≡ simple_descriptor_in bytes
     → (behind 2 d.input_clusters ≤ length bytes) × (behind 2 d.output_clusters ≤ length bytes)
 unfolding says simple_descriptor_in lists_in needing simple_of behind counted
-lists_end bytes read {d} said e =
+lists_end bytes d said =
     let inputs : Places = counted bytes 6 in
     let outputs : Places = counted bytes (behind 2 inputs) in
     let lists : ClusterLists = record { input_clusters = inputs; output_clusters = outputs } in
-    let found : answer d ≡ mapped (simple_of (field_of simple_widths bytes)) (cond (leb (behind 2 outputs) (length bytes)) (answer lists) (refusal 3)) = rw e at said in
+    let found : answer d ≡ mapped (simple_of (field_of simple_widths bytes)) (cond (leb (behind 2 outputs) (length bytes)) (answer lists) (refusal 3)) = said in
     let (held, same) = granted (leb (behind 2 outputs) (length bytes)) (answer (simple_of (field_of simple_widths bytes) lists)) 3 (rw mapped_granted at (sym found)) in
     let long : behind 2 outputs ≤ length bytes = leb-true (behind 2 outputs) (length bytes) held in
     let first : d.input_clusters ≡ inputs = cc same in
@@ -72,15 +72,14 @@ lists_end bytes read {d} said e =
 
 -- so they still have a place in the reply
 pub places_fit :
-    (bytes : List ℕ) (place : Places) (read : Result SimpleDescriptorFields Refusal) {d : SimpleDescriptorFields}
-    → says read ≡ simple_descriptor_in (take (place.start + place.count - place.start) (drop place.start bytes))
-    → read ≡ Ok d
+    (bytes : List ℕ) (place : Places) (d : SimpleDescriptorFields)
+    → says (Ok d) ≡ simple_descriptor_in (take (place.start + place.count - place.start) (drop place.start bytes))
     → behind 1 place ≤ length bytes
     → length bytes < 2 ^ 63
     → (place.start + d.input_clusters.start < 2 ^ 63) × (place.start + d.output_clusters.start < 2 ^ 63)
 unfolding behind
-places_fit bytes place read said e room small =
-    let (first, second) = lists_end (take (place.start + place.count - place.start) (drop place.start bytes)) read said e in
+places_fit bytes place d said room small =
+    let (first, second) = lists_end (take (place.start + place.count - place.start) (drop place.start bytes)) d said in
     let long = length-take (place.start + place.count - place.start) (drop place.start bytes) in
     (omega (arith, first, long), omega (arith, second, long))
 
@@ -103,12 +102,11 @@ pub moved_both :
 unfolding shifted_fields
 moved_both at d e f = rw (e, f)
 
--- what the reader of the list said
-module _ (bytes : List ℕ) (read : Result ListReply Refusal) (said : says read ≡ list_reply_in bytes) where
-  pub simple_headed : {l : ListReply} {told : Outcome SimpleReply} → read ≡ Ok l → told ≡ simple_within l bytes → told ≡ simple_reply_in bytes
-  unfolding says simple_reply_in and_then
-  simple_headed e t = rw (← said, e) t
-
-  pub simple_refused : {why : Refusal} → read ≡ Err why → says (Err why) ≡ simple_reply_in bytes
-  unfolding says simple_reply_in and_then
-  simple_refused e = rw (← said, e)
+-- what stands behind a list that was read
+pub simple_headed :
+    (bytes : List ℕ) (l : ListReply) {told : Outcome SimpleReply}
+    → says (Ok l) ≡ list_reply_in bytes
+    → told ≡ simple_within l bytes
+    → told ≡ simple_reply_in bytes
+unfolding says simple_reply_in and_then
+simple_headed bytes l said t = rw (← said) t

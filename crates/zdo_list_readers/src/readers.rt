@@ -39,9 +39,9 @@ impl ListReply {
         if reply.len() < 5 {
             return Err(Refusal::Malformed);
         }
-        let list = read_u8(reply, 4);
-        let start = read.next;
-        let count = read.value as usize;
+        let count = read_u8(reply, 4);
+        let start = count.next;
+        let count = count.value as usize;
         if reply.len() < start + count {
             return Err(Refusal::Malformed);
         }
@@ -71,22 +71,12 @@ impl MatchReply {
         let seq = read_u8(reply, 0);
         let status = read_u8(reply, seq.next);
         if status.value == STATUS_SUCCESS {
-            return MatchReply::matched(ListReply::try_read(reply));
+            return Ok(MatchReply::Matched(ListReply::try_read(reply)?));
         }
         Ok(MatchReply::Failed(StatusReply {
             seq: seq.value,
             status: status.value,
         }))
-    }
-
-    // The reply that has this list; refused where the list was.
-    fn matched(read: Result<ListReply, Refusal>) -> Result<MatchReply, Refusal>
-        ensures { says result ≡ mapped Matched (says read) }
-    {
-        match read {
-            Ok(list) => Ok(MatchReply::Matched(list)),
-            Err(why) => Err(why),
-        }
     }
 }
 
@@ -105,7 +95,7 @@ impl SimpleReply {
     pub fn try_read(reply: &[u8]) -> Result<SimpleReply, Refusal>
         ensures { says result ≡ simple_reply_in reply.now }
     {
-        let fields = ListReply::try_read(reply)?;
+        let list = ListReply::try_read(reply)?;
         SimpleReply::within(list, reply)
     }
 
@@ -122,9 +112,9 @@ impl SimpleReply {
             let descriptor = None;
             return Ok(SimpleReply { header, descriptor });
         }
-        let read = SimpleDescriptorFields::try_read(&reply[start..start + count])?;
-            let descriptor = Some(shifted_fields(start, fields));
-            Ok(SimpleReply { header, descriptor })
+        let fields = SimpleDescriptorFields::try_read(&reply[start..start + count])?;
+        let descriptor = Some(shifted_fields(start, fields));
+        Ok(SimpleReply { header, descriptor })
     }
 }
 

@@ -1,67 +1,68 @@
 -- Replies that begin with the header: what follows from what its reader said, and a descriptor behind it. Assumes nothing.
 use Rattle.std.specs.Prelude.{Result, Ok, Err}
+use Rattle.std.specs.Result.{IsErr, IsErrAnd}
 use Prim.Native.Nat.{ℕ, ◌-◌, ◌≤◌}
 use native.Mathlib.Omega.{arith}
-use mathlib.Core.Path.{◌≡◌, sym}
+use mathlib.Core.Path.{◌≡◌, refl, sym}
 use mathlib.Core.Bool.{true}
 use mathlib.Core.List.{List}
 use lib.ListN.{length, take, drop}
 use lib.Dec.{eqb, leb}
 use borrow.Author.Tests.{ne_eqb, leb-true}
-use Rattle.zigbee_types.specs.Outcome.{Outcome, answer, refusal, and_then, mapped, needing}
+use Rattle.zigbee_types.specs.Outcome.{Outcome, answer, and_then, mapped, needing}
 use Rattle.zigbee_types.specs.Layout.{parsed, size}
-use Rattle.zigbee_types.specs.Refusals.{refusal_number}
 use Rattle.zigbee_types.specs.Statuses.{SUCCESS}
 use Rattle.zigbee_types.specs.declared.Refusal.{Refusal}
 use Rattle.zigbee_types.proofs.Outcomes.{granted}
 use Rattle.zigbee_types.proofs.Parts.{part_whole}
+use Rattle.zigbee_types.proofs.Passed.{passed_mapped}
 use Rattle.zdo_readers.specs.Readers.{header_widths, header_in, descriptor_reply_in}
 use Rattle.zigbee_types.specs.Answers.{says}
 use Rattle.zdo_readers.specs.declared.readers.ReplyHeader.{ReplyHeader}
 
 -- what the reader of the header said
-module _ (bytes : List ℕ) (read : Result ReplyHeader Refusal) (said : says read ≡ header_in bytes) where
-  -- a reply without one is refused, whatever was to follow
-  pub headed_refused : {R : Type 0} (next : ReplyHeader → Outcome R) {why : Refusal} → read ≡ Err why → refusal (refusal_number why) ≡ and_then (header_in bytes) next
+module _ (bytes : List ℕ) (h : ReplyHeader) (said : says (Ok h) ≡ header_in bytes) where
+  -- a reply with one is what follows
+  pub headed : {R : Type 0} (next : ReplyHeader → Outcome R) {told : Outcome R} → told ≡ next h → told ≡ and_then (header_in bytes) next
   unfolding says and_then
-  headed_refused next e = rw (← said, e)
+  headed next t = rw (← said) t
 
-  -- so is one that was to go on with a descriptor
-  pub described_refused :
-      {D R : Type 0} (descriptorIn : List ℕ → Outcome D) (with : ReplyHeader → D → R) (without : ReplyHeader → R) {why : Refusal}
-      → read ≡ Err why
-      → refusal (refusal_number why) ≡ descriptor_reply_in descriptorIn with without bytes
-  unfolding descriptor_reply_in
-  described_refused descriptorIn with without e = headed_refused _ e
+  -- and has four bytes
+  pub header_long : {n : ℕ} → n ≤ 4 → n ≤ length bytes
+  unfolding says header_in header_widths parsed size needing
+  header_long few =
+      let (held, _) = granted (leb 4 (length bytes)) _ 3 (sym said) in
+      let long = leb-true 4 (length bytes) held in
+      omega arith
 
-  module _ {h : ReplyHeader} (e : read ≡ Ok h) where
-    -- one with it is what follows
-    pub headed : {R : Type 0} (next : ReplyHeader → Outcome R) {told : Outcome R} → told ≡ next h → told ≡ and_then (header_in bytes) next
-    unfolding says and_then
-    headed next t = rw (← said, e) t
+  module _ {D R : Type 0} (descriptorIn : List ℕ → Outcome D) (with : ReplyHeader → D → R) (without : ReplyHeader → R) where
+    -- with another status there is no descriptor
+    pub described_none : {r : R} → (h.status ≡ SUCCESS → ⊥) → r ≡ without h → answer r ≡ descriptor_reply_in descriptorIn with without bytes
+    unfolding descriptor_reply_in
+    described_none other is = headed _ (rw (ne_eqb _ _ other, is))
 
-    -- and has four bytes
-    pub header_long : {n : ℕ} → n ≤ 4 → n ≤ length bytes
-    unfolding says header_in header_widths parsed size needing
-    header_long few =
-        let (held, _) = granted (leb 4 (length bytes)) _ 3 (rw e at (sym said)) in
-        let long = leb-true 4 (length bytes) held in
-        omega arith
-
-    module _ {D R : Type 0} (descriptorIn : List ℕ → Outcome D) (with : ReplyHeader → D → R) (without : ReplyHeader → R) where
-      -- with another status there is no descriptor
-      pub described_none : {r : R} → (h.status ≡ SUCCESS → ⊥) → r ≡ without h → answer r ≡ descriptor_reply_in descriptorIn with without bytes
-      unfolding descriptor_reply_in
-      described_none other is = headed _ (rw (ne_eqb _ _ other, is))
-
-      -- with SUCCESS it is what was read from byte 4 on
-      pub described_some :
-          {told : Outcome R} {d : Outcome D}
-          → h.status ≡ SUCCESS
-          → told ≡ mapped (with h) d
+    -- with SUCCESS it is what is read from byte 4 on
+    module _ (ok : h.status ≡ SUCCESS) where
+      described :
+          {d : Outcome D} {told : Outcome R}
           → d ≡ descriptorIn (take (length bytes - 4) (drop 4 bytes))
+          → told ≡ mapped (with h) d
           → told ≡ descriptor_reply_in descriptorIn with without bytes
       unfolding descriptor_reply_in
-      described_some ok t r =
+      described read t =
           let yes : eqb h.status SUCCESS ≡ true = rw ok in
-          headed _ (rw (yes, ← part_whole 4 bytes, ← r) t)
+          headed _ (rw (yes, ← part_whole 4 bytes, ← read) t)
+
+      pub described_read :
+          (d : D)
+          → says (Ok d) ≡ descriptorIn (take (length bytes - 4) (drop 4 bytes))
+          → answer (with h d) ≡ descriptor_reply_in descriptorIn with without bytes
+      unfolding says mapped
+      described_read d read = described read refl
+
+      pub described_cut :
+          (r : Result R Refusal) (why : Refusal)
+          → says {A = D} (Err why) ≡ descriptorIn (take (length bytes - 4) (drop 4 bytes))
+          → IsErr r × IsErrAnd r (λ e. e ≡ why)
+          → says r ≡ descriptor_reply_in descriptorIn with without bytes
+      described_cut r why read handed = described read (passed_mapped r why refl handed (with h))

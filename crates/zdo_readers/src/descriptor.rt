@@ -8,7 +8,7 @@ use zdo_replies::descriptor::STATUS_SUCCESS;
 use zigbee_types::{Refusal, ShortAddress};
 
 // A parsed Node_Desc_rsp (2.4.4.2.3).
-#[derive(Clone, Copy)]
+#[derive(Clone, Copy, PartialEq, Eq, Debug)]
 pub struct NodeDescRsp {
     // ZDP transaction sequence number of the request being answered.
     pub seq: u8,

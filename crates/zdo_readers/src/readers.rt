@@ -54,24 +54,12 @@ impl NodeReply {
         ensures { says result ≡ node_reply_in reply.now }
     {
         let header = ReplyHeader::try_read(reply)?;
-            if header.status != STATUS_SUCCESS {
-                let descriptor = None;
-                return Ok(NodeReply { header, descriptor });
-            }
-            NodeReply::with(header, NodeDescriptor::try_read(&reply[4..]))
-    }
-
-    // The reply that has this header and the descriptor that was read; refused where that was.
-    fn with(header: ReplyHeader, read: Result<NodeDescriptor, Refusal>) -> Result<NodeReply, Refusal>
-        ensures { says result ≡ mapped (node_with header) (says read) }
-    {
-        match read {
-            Ok(descriptor) => {
-                let descriptor = Some(descriptor);
-                Ok(NodeReply { header, descriptor })
-            }
-            Err(why) => Err(why),
+        if header.status != STATUS_SUCCESS {
+            let descriptor = None;
+            return Ok(NodeReply { header, descriptor });
         }
+        let descriptor = Some(NodeDescriptor::try_read(&reply[4..])?);
+        Ok(NodeReply { header, descriptor })
     }
 }
 
@@ -90,24 +78,12 @@ impl PowerReply {
         ensures { says result ≡ power_reply_in reply.now }
     {
         let header = ReplyHeader::try_read(reply)?;
-            if header.status != STATUS_SUCCESS {
-                let descriptor = None;
-                return Ok(PowerReply { header, descriptor });
-            }
-            PowerReply::with(header, NodePowerDescriptor::try_read(&reply[4..]))
-    }
-
-    // The reply that has this header and the descriptor that was read; refused where that was.
-    fn with(header: ReplyHeader, read: Result<NodePowerDescriptor, Refusal>) -> Result<PowerReply, Refusal>
-        ensures { says result ≡ mapped (power_with header) (says read) }
-    {
-        match read {
-            Ok(descriptor) => {
-                let descriptor = Some(descriptor);
-                Ok(PowerReply { header, descriptor })
-            }
-            Err(why) => Err(why),
+        if header.status != STATUS_SUCCESS {
+            let descriptor = None;
+            return Ok(PowerReply { header, descriptor });
         }
+        let descriptor = Some(NodePowerDescriptor::try_read(&reply[4..])?);
+        Ok(PowerReply { header, descriptor })
     }
 }
 

@@ -33,7 +33,7 @@ const STATUS_NOT_AUTHORIZED: u8 = 0x8d;
 // ---- reasons
 
 // Outcome of a Bind_req or Unbind_req, as reported in the response (2.4.4.3.2, 2.4.4.3.3).
-#[derive(Clone, Copy)]
+#[derive(Clone, Copy, PartialEq, Eq, Debug)]
 pub enum BindStatus {
     Success,
     InvalidEndpoint,
@@ -58,7 +58,7 @@ impl BindStatus {
 }
 
 // Why a discovery request could not be answered with data (2.4.4.2).
-#[derive(Clone, Copy)]
+#[derive(Clone, Copy, PartialEq, Eq, Debug)]
 pub enum DiscoveryError {
     // The request is none that this device answers: it names another device, or asks for an unknown kind of address reply.
     InvalidRequestType,

@@ -1,7 +1,7 @@
 // What the network layer says of a leave (the Rust's nwk/nlme/management.rs, the one type that 000 uses).
 
 // Status codes for NLME-LEAVE.confirm; `leave_status` has what Mgmt_Leave_rsp says of each.
-#[derive(Clone, Copy)]
+#[derive(Clone, Copy, PartialEq, Eq, Debug)]
 pub enum NlmeLeaveStatus {
     Success,
     // Not currently joined, or the request is otherwise malformed.

@@ -57,7 +57,7 @@ pub const ADDR_REQUEST_SINGLE: u8 = 0x00;
 pub const ADDR_REQUEST_EXTENDED: u8 = 0x01;
 
 // A parsed NWK_addr_req (2.4.3.1.1).
-#[derive(Clone, Copy)]
+#[derive(Clone, Copy, PartialEq, Eq, Debug)]
 pub struct NwkAddrReq {
     // ZDP transaction sequence number to echo in the response.
     pub seq: u8,
@@ -67,7 +67,7 @@ pub struct NwkAddrReq {
 }
 
 // A parsed IEEE_addr_req (2.4.3.1.2).
-#[derive(Clone, Copy)]
+#[derive(Clone, Copy, PartialEq, Eq, Debug)]
 pub struct IeeeAddrReq {
     pub seq: u8,
     // The address the responder must match against its own.
@@ -77,14 +77,14 @@ pub struct IeeeAddrReq {
 
 // A parsed Node_Desc_req, Power_Desc_req or Active_EP_req (2.4.3.1.3, 2.4.3.1.4, 2.4.3.1.6). (The Rust reads the address
 // alone.)
-#[derive(Clone, Copy)]
+#[derive(Clone, Copy, PartialEq, Eq, Debug)]
 pub struct AddrOfInterestReq {
     pub seq: u8,
     pub nwk_addr_of_interest: ShortAddress,
 }
 
 // A parsed Simple_Desc_req (2.4.3.1.5). (Added: the Rust reads the address alone.)
-#[derive(Clone, Copy)]
+#[derive(Clone, Copy, PartialEq, Eq, Debug)]
 pub struct SimpleDescReq {
     pub seq: u8,
     pub nwk_addr_of_interest: ShortAddress,
@@ -102,7 +102,7 @@ pub struct MatchDescReq {
 }
 
 // A parsed Bind_req or Unbind_req (2.4.3.2.2, 2.4.3.2.3).
-#[derive(Clone, Copy)]
+#[derive(Clone, Copy, PartialEq, Eq, Debug)]
 pub struct BindReq {
     pub seq: u8,
     // Device the binding applies to; must be this device.
@@ -113,7 +113,7 @@ pub struct BindReq {
 }
 
 // Destination of a Bind_req, by addressing mode (2.4.3.2.2).
-#[derive(Clone, Copy)]
+#[derive(Clone, Copy, PartialEq, Eq, Debug)]
 pub enum BindReqDestination {
     Group(GroupAddress),
     Device { ieee: IeeeAddress, endpoint: u8 },
@@ -137,7 +137,7 @@ impl BindReq {
 }
 
 // A parsed Mgmt_Leave_req (2.4.3.3.5).
-#[derive(Clone, Copy)]
+#[derive(Clone, Copy, PartialEq, Eq, Debug)]
 pub struct MgmtLeaveReq {
     pub seq: u8,
     // Device to remove; `None` for the NULL address, which targets the recipient itself.
@@ -145,8 +145,6 @@ pub struct MgmtLeaveReq {
     pub remove_children: bool,
     pub rejoin: bool,
 }
-
-// ---- what a parser answers: the request, or why there is none
 
 // ---- addresses
 

@@ -1,14 +1,14 @@
 -- `SimpleReply::within` meets its contract: no descriptor, or the one that is read. Assumes nothing.
 use native.Mathlib.Omega.{arith}
+use mathlib.Core.Path.{refl}
 use borrow.Author.Rules.{rules}
 use Rattle.zigbee_types.specs.Layout.{behind}
 use Rattle.zdo_list_readers.proofs.Within.{within_none, within_read, within_refused, places_fit}
 use Rattle.zdo_list_readers.proofs.readers.SimpleReply.within.Goals as goal
 
-ruleset laws = (rules, within_none, within_read, within_refused, places_fit)
+ruleset laws = (rules, within_none)
 
 pub returns-then-count-eq0 : goal.returns-then-count-eq0
-unfolding behind
 returns-then-count-eq0 c = search laws
 
 pub overflow_add-start : goal.overflow_add-start
@@ -21,12 +21,10 @@ slice_bounds-try_read-end c = search laws
 
 pub shifted_fields-requires : goal.shifted_fields-requires
 unfolding behind
-shifted_fields-requires c = places_fit _ _ _ c.try_read-read.ensures c.in-Descriptor.is (search rules) (omega arith)
+shifted_fields-requires c = places_fit _ _ _ c.in_ok-fields.ensures (search rules) (omega arith)
 
-pub returns-in-Descriptor : goal.returns-in-Descriptor
-unfolding behind
-returns-in-Descriptor c = search laws
+pub returns-in_err-fields : goal.returns-in_err-fields
+returns-in_err-fields c = within_refused _ _ _ (search rules) refl _ _ c.in_err-fields.ensures c.from_residual.ensures
 
-pub returns-in-Refused : goal.returns-in-Refused
-unfolding behind
-returns-in-Refused c = search laws
+pub returns : goal.returns
+returns c = within_read _ _ _ (search rules) refl _ c.in_ok-fields.ensures c.shifted_fields.ensures

@@ -1,28 +1,32 @@
 -- `NodeReply::try_read` meets its contract: the header, and what follows by its status. Assumes nothing.
 use borrow.Author.Rules.{rules}
-use Rattle.zdo_readers.proofs.Headed.{described_refused, header_long, described_none, described_some}
-use Rattle.zdo_readers.specs.Readers.{node_reply_in}
+use mathlib.Core.Path.{refl}
+use Rattle.zigbee_types.proofs.Passed.{passed_then}
+use Rattle.zdo_readers.proofs.Headed.{header_long, described_none, described_read, described_cut}
+use Rattle.zdo_readers.specs.Readers.{descriptor_reply_in, node_reply_in}
 use Rattle.zigbee_types.specs.Answers.{says}
 use Rattle.zdo_readers.proofs.readers.NodeReply.try_read.Goals as goal
 
-ruleset laws = (rules, described_refused, header_long, described_none, described_some)
+ruleset laws = (rules, header_long)
+
+pub returns-in_err-header : goal.returns-in_err-header
+unfolding descriptor_reply_in node_reply_in
+returns-in_err-header c = passed_then _ _ c.in_err-header.ensures c.from_residual.ensures _
 
 pub returns-then-header-ne-STATUS_SUCCESS : goal.returns-then-header-ne-STATUS_SUCCESS
 unfolding node_reply_in says
-returns-then-header-ne-STATUS_SUCCESS c = search laws
+returns-then-header-ne-STATUS_SUCCESS c = described_none _ _ c.in_ok-header.ensures _ _ _ (search rules) refl
 
 pub slice_bounds-try_read-count : goal.slice_bounds-try_read-count
-unfolding node_reply_in says
 slice_bounds-try_read-count c = search laws
 
 pub slice_bounds-try_read-start : goal.slice_bounds-try_read-start
-unfolding node_reply_in says
 slice_bounds-try_read-start c = search laws
 
-pub returns-else-header-ne-STATUS_SUCCESS : goal.returns-else-header-ne-STATUS_SUCCESS
-unfolding node_reply_in says
-returns-else-header-ne-STATUS_SUCCESS c = search laws
+pub returns-in_err-try_read : goal.returns-in_err-try_read
+unfolding node_reply_in
+returns-in_err-try_read c = described_cut _ _ c.in_ok-header.ensures _ _ _ (search rules) _ _ c.in_err-try_read.ensures (search rules)
 
-pub returns-in-Refused : goal.returns-in-Refused
+pub returns : goal.returns
 unfolding node_reply_in says
-returns-in-Refused c = search laws
+returns c = described_read _ _ c.in_ok-header.ensures _ _ _ (search rules) _ c.in_ok-try_read.ensures
