@@ -15,11 +15,12 @@ use Rattle.zigbee_types.specs.Outcome.{answer, refusal, mapped, begun_length, be
 use Rattle.zigbee_types.specs.declared.Refusal.TheVariants.{BadTables, Malformed}
 use Rattle.zigbee_types.proofs.Scans.{all_left, filter_last, said_no, said_yes}
 use Rattle.zdo_requests.specs.declared.descriptor.MatchDescReq.{MatchDescReq}
-use Rattle.zdo_device.specs.Tables.{Pools, used, record_fits, good_records, good_device, endpoint_of, resolved_in}
+use Rattle.zdo_device.specs.Tables.{Pools, used, record_fits, good_device, endpoint_of, resolved_in}
 use Rattle.zdo_device.specs.declared.descriptor.EndpointDescriptor.{EndpointDescriptor}
 use Rattle.zdo_device.specs.declared.descriptor.DeviceDescriptorConfig.{DeviceDescriptorConfig}
-use Rattle.zdo_device.proofs.Records.{used_at, At, at_first, at_inside, at_next, good_count, good_fit}
-use Rattle.zdo_matching.specs.Matching.{Wanted, wanted, matches, match_list, good_places, matched_in, matched_records, matching_endpoints, may_match, matched_with}
+use Rattle.zdo_device.proofs.Records.{good_fit}
+use Rattle.zdo_matching.specs.Matching.{Wanted, wanted, matches, match_list, good_places, matched_in, matching_endpoints, may_match, matched_with}
+use Rattle.zigbee_types.specs.Answers.{says}
 use Rattle.zdo_matching.specs.Answers.{matching_says}
 use Rattle.zdo_matching.specs.declared.descriptor.Matched.{Matched}
 use Rattle.zdo_matching.proofs.Filled.{Filled, filled_none, filled_length, filled_within, filled_more, filled_begun, begun_filled, behind_none, behind_full, behind_one}
@@ -109,35 +110,18 @@ module _ {w : Wanted} {p : Pools} {records : List EndpointDescriptor} {i k : ℕ
 
 -- ---- the same of the records in use
 
-pub record FoundUsed (w : Wanted) (p : Pools) (d : DeviceDescriptorConfig) (n i : ℕ) (before : List ℕ) (k : ℕ) (after : List ℕ) : Type 0 where
-  pub at : At d n i
-  pub same : length after ≡ length before
-  pub found : Found w p (used d) i before k after
+module _ (w : Wanted) (p : Pools) (d : DeviceDescriptorConfig) (before : List ℕ) where
+  pub used_first : good_device p d ≡ true → Found w p (take d.endpoint_count d.endpoints) 0 before 0 before
+  unfolding used
+  used_first g = found_first w p _ before (good_fit p d g)
 
-pub used_first :
-    (w : Wanted) {p : Pools} {d : DeviceDescriptorConfig} {before : List ℕ}
-    → length d.endpoints ≡ 32
-    → good_device p d ≡ true
-    → FoundUsed w p d d.endpoint_count 0 before 0 before
-used_first w {p} {d} {before} e g =
-    let few = good_count p d g in
-    record { at = at_first e (omega arith); same = refl; found = found_first w p (used d) before (good_fit p d g) }
-
-module _ {w : Wanted} {p : Pools} {d : DeviceDescriptorConfig} {n i k : ℕ} {before after : List ℕ} (f : FoundUsed w p d n i before k after) where
-  pub used_end : n ≤ i → Begun (answer (match_list w (resolved_in p (used d)))) before (answer k) after
-  used_end h = found_end f.found (rw f.at.counted h)
-
-  module _ (z : EndpointDescriptor) (h : i < n) where
-    pub used_may : (q : MatchDescReq) (payload : List ℕ) → good_places q payload ≡ true → may_match p (get_or d.endpoints i z) q payload (length after) (answer k) ≡ true
-    used_may q payload places = rw (used_at d i z (at_inside f.at h)) at (found_may f.found z (at_inside f.at h) q payload places)
-
-    pub used_more :
-        {m : ℕ} {later : List ℕ}
-        → Begun (matched_with w (endpoint_of p (get_or d.endpoints i z)) after (answer k)) after (answer m) later
-        → FoundUsed w p d n (i + 1) before m later
-    used_more {m} {later} b =
-        let next : Found w p (used d) (i + 1) before m later = found_next f.found z (at_inside f.at h) (rw (used_at d i z (at_inside f.at h)) b) in
-        record { at = at_next f.at h; same = found_length next; found = next }
+  pub used_end :
+      {i k : ℕ} {after : List ℕ}
+      → Found w p (take d.endpoint_count d.endpoints) i before k after
+      → length (take d.endpoint_count d.endpoints) ≤ i
+      → Begun (answer (match_list w (resolved_in p (used d)))) before (answer k) after
+  unfolding used
+  used_end f h = found_end f h
 
 -- ---- the tests before it
 
@@ -155,13 +139,13 @@ module _
     (is : t ≡ good_device p d) where
   -- refusal 1
   pub refused_tables : not t ≡ true → Begun (matching_endpoints p d q payload) before (matching_says (Err BadTables)) before
-  unfolding matching_says matching_endpoints
+  unfolding matching_says mapped says matching_endpoints
   refused_tables bad = rw (said_no is bad) (begun_refused 1 before)
 
   module _ (fine : not t ≡ false) {u : Bool} (places : u ≡ good_places q payload) where
     -- refusal 3
     pub refused_places : not u ≡ true → Begun (matching_endpoints p d q payload) before (matching_says (Err Malformed)) before
-    unfolding matching_says matching_endpoints matched_in
+    unfolding matching_says mapped says matching_endpoints matched_in
     refused_places bad = rw (said_yes is fine, said_no places bad) (begun_refused 3 before)
 
     -- otherwise what is found
@@ -170,5 +154,5 @@ module _
         → (m : Matched) {after : List ℕ}
         → Begun (answer (match_list (wanted q payload) (resolved_in p (used d)))) before (answer m.written) after
         → Begun (matching_endpoints p d q payload) before (matching_says (Ok m)) after
-    unfolding matching_says matching_endpoints matched_in
+    unfolding matching_says mapped says matching_endpoints matched_in
     found_matched good m h = rw (said_yes is fine, said_yes places good) h

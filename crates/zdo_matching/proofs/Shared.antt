@@ -4,7 +4,7 @@ use Prim.Native.Nat.{ℕ, suc, ◌+◌, ◌-◌, ◌*◌, ◌≤◌, ◌<◌}
 use native.Mathlib.Nat.{mul-zero, mul-add, mul-one, add-zero, add_assoc}
 use native.Mathlib.Numerals.{add-one}
 use native.Mathlib.Omega.{arith}
-use mathlib.Core.Path.{◌≡◌, sym, ◌∙◌}
+use mathlib.Core.Path.{◌≡◌, refl, sym, ◌∙◌}
 use mathlib.Core.Bool.{Bool, true, false}
 use mathlib.Core.List.{List, [], ◌∷◌}
 use lib.Dec.{eqb}
@@ -49,6 +49,10 @@ module _ (w : ℕ) (bytes : List ℕ) (p : Places) where
 pub record Among (cluster : ℕ) (own : List ℕ) (j : ℕ) : Type 0 where
   pub within : j ≤ length own
   pub left : any (eqb cluster) own ≡ any (eqb cluster) (drop j own)
+
+-- of none, to begin with
+pub among_first : {cluster : ℕ} {own : List ℕ} → Among cluster own 0
+among_first = record { within = omega arith; left = refl }
 
 -- nor is it the next
 pub among_next :

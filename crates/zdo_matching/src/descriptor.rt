@@ -56,13 +56,9 @@ pub fn matching_endpoints_checked<'a>(
     requires payload_value { good_places request payload.now ≡ true }
     ensures { Begun (answer (match_list (wanted request payload.now) (resolved_in (pools inputs.now outputs.now) (used device)))) out.old (answer result.written) out.new }
 {
-    let count = device.endpoint_count;
     let mut matched = Matched { written: 0 };
-    let mut i: usize = 0;
-    while i < count {
-        let ep = device.endpoints[i];
-        matched = match_record(matched, ep, inputs, outputs, request, payload, out);
-        i += 1;
+    for ep in &device.endpoints[..device.endpoint_count] {
+        matched = match_record(matched, *ep, inputs, outputs, request, payload, out);
     }
     matched
 }
@@ -132,18 +128,14 @@ fn shares(payload: &[u8], requested: Places, own: &[u16]) -> bool
     ensures { result ≡ shared (entries_at 2 payload.now requested) own.now }
 {
     let mut found = false;
-    let mut k: usize = 0;
-    'search: while k < requested.count {
-        let cluster = read_u16(payload, requested.start + 2 * k);
-        let mut j: usize = 0;
-        while j < own.len() {
-            if own[j] == cluster.value {
+    'search: for k in 0..requested.count {
+        let asked = read_u16(payload, requested.start + 2 * k);
+        for cluster in own {
+            if *cluster == asked.value {
                 found = true;
                 break 'search;
             }
-            j += 1;
         }
-        k += 1;
     }
     found
 }

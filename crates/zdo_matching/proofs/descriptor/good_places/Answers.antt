@@ -1,5 +1,4 @@
 -- `good_places` meets its contract: each test is one of the two. Assumes nothing.
-use borrow.Author.Rules.{rules}
 use Rattle.zdo_matching.specs.Matching.{good_places}
 use Rattle.zdo_matching.proofs.descriptor.good_places.Goals as goal
 

@@ -1,5 +1,4 @@
 -- `within` meets its contract: the list ends within the bytes if half of what is behind its start is enough. Assumes nothing.
-use Rattle.std.proofs.Common.{rules}
 use Rattle.zdo_matching.proofs.Matches.{within_past, within_half}
 use Rattle.zdo_matching.proofs.descriptor.within.Goals as goal
 
