@@ -7,6 +7,7 @@ use aps_binding::binding::Binding;
 use zigbee_types::{GroupAddress, Refusal};
 
 // The binding table as held in the AIB: thirty-two places, of which the first `count` are used, and at most `limit` may be.
+// (An array with a count beside it: document 01's form, with no heap.)
 #[derive(Clone, Copy)]
 pub struct BindingTable {
     pub entries: [Binding; 32],
@@ -28,10 +29,9 @@ impl BindingTable {
     }
 }
 
-// What a bind or an unbind came to (for the Rust's `Result<(), BindingError>`), or why it was refused.
-#[derive(Clone, Copy)]
-pub enum LinkStatus {
-    Success,
+// Why a bind or an unbind did nothing (2.2.4.3.2, 2.2.4.3.4), or was refused.
+#[derive(Clone, Copy, PartialEq, Eq, Debug)]
+pub enum BindingError {
     InvalidBinding,
     TableFull,
     Refused(Refusal),
@@ -41,7 +41,7 @@ pub enum LinkStatus {
 #[derive(Clone, Copy)]
 pub struct Linked {
     pub table: BindingTable,
-    pub status: LinkStatus,
+    pub status: Result<(), BindingError>,
 }
 
 // Create a binding link (2.2.4.3.1). An entry already held is success, in a full table too. The search stands here, and the answer is
@@ -51,25 +51,16 @@ pub fn create_binding_link(mut table: BindingTable, binding: Binding) -> Linked
 {
     let count = table.count;
     let limit = table.limit;
-    let status = if good_sizes(count, limit) {
-        let mut i: usize = 0;
-        while i < count {
-            if binding.eq(table.entries[i]) {
-                break;
-            }
-            i += 1;
-        }
-        if i < count {
-            LinkStatus::Success
-        } else if count == limit {
-            LinkStatus::TableFull
-        } else {
-            table.entries[count] = binding;
-            table.count = count + 1;
-            LinkStatus::Success
-        }
+    let status = if !good_sizes(count, limit) {
+        Err(BindingError::Refused(Refusal::BadTables))
+    } else if table.entries[..count].contains(&binding) {
+        Ok(())
+    } else if count == limit {
+        Err(BindingError::TableFull)
     } else {
-        LinkStatus::Refused(Refusal::BadTables)
+        table.entries[count] = binding;
+        table.count = count + 1;
+        Ok(())
     };
     Linked { table, status }
 }
@@ -80,29 +71,18 @@ pub fn remove_binding_link(mut table: BindingTable, binding: Binding) -> Linked
     ensures { Leaves (remove_binding_link table binding) table (link_says result.status) result.table }
 {
     let count = table.count;
-    let status = if good_sizes(count, table.limit) {
-        let mut index: usize = 0;
-        while index < count {
-            if binding.eq(table.entries[index]) {
-                break;
-            }
-            index += 1;
-        }
-        if index < count {
-            let last = count - 1;
-            let mut i = index;
-            while i < last {
-                table.entries[i] = table.entries[i + 1];
-                i += 1;
-            }
-            table.entries[last] = Binding::group(0, 0, GroupAddress(0));
-            table.count = last;
-            LinkStatus::Success
-        } else {
-            LinkStatus::InvalidBinding
-        }
+    let status = if !good_sizes(count, table.limit) {
+        Err(BindingError::Refused(Refusal::BadTables))
+    } else if let Some(index) = table.entries[..count]
+        .iter()
+        .position(|held| *held == binding)
+    {
+        table.entries.copy_within(index + 1..count, index);
+        table.entries[count - 1] = Binding::group(0, 0, GroupAddress(0));
+        table.count = count - 1;
+        Ok(())
     } else {
-        LinkStatus::Refused(Refusal::BadTables)
+        Err(BindingError::InvalidBinding)
     };
     Linked { table, status }
 }

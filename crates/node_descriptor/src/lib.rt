@@ -39,7 +39,7 @@ impl LogicalType {
         type_bits(self.number())
     }
 
-    // The number of a name, or the one that is reserved.
+    // The number of a name, or the one that is reserved: a table, as `from_bits` is one. `bits` is the Rust's name.
     fn number(self) -> u8
         ensures { result ≡ type_number self }
     {

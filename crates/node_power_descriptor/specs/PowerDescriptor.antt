@@ -1,8 +1,6 @@
 -- The node power descriptor (2.3.2.4): two bytes, four fields of four bits (document 01, module 3).
-use Rattle.std.specs.Prelude.{ℕ, ◌+◌, ◌*◌, ◌/◌, ◌%◌, Bool, ◌||◌, ◌&&◌, cond, List, [], ◌∷◌, eqb, Result, Ok, Err}
-use Rattle.zigbee_types.specs.declared.Refusal.{Refusal}
+use Rattle.std.specs.Prelude.{ℕ, ◌+◌, ◌*◌, ◌/◌, ◌%◌, Bool, ◌||◌, ◌&&◌, cond, List, [], ◌∷◌, eqb}
 use Rattle.zigbee_types.specs.Outcome.{Outcome, answer, refusal, and_then}
-use Rattle.zigbee_types.specs.Refusals.{refusal_number}
 use Rattle.zigbee_types.specs.Bytes.{bit_at}
 use Rattle.zigbee_types.specs.Layout.{Field, byte, parsed}
 use Rattle.zigbee_types.specs.Lists.{any}

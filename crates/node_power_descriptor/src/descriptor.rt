@@ -25,6 +25,7 @@ pub struct PowerDescriptorConfig {
 
 impl PowerDescriptorConfig {
     // The mode low, the sources high (2.3.2.4.1, 2.3.2.4.2).
+    #[tactic(auto, using(crate::proofs::Bits::byte0_joined))]
     fn byte0(self) -> u8
         ensures { result ≡ power_byte0 self }
     {
@@ -33,6 +34,7 @@ impl PowerDescriptorConfig {
     }
 
     // The current source low, its level high (2.3.2.4.3, 2.3.2.4.4).
+    #[tactic(auto, using(crate::proofs::Bits::byte1_joined))]
     fn byte1(self) -> u8
         ensures { result ≡ power_byte1 self }
     {

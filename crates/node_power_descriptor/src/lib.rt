@@ -60,6 +60,7 @@ impl NodePowerDescriptor {
     }
 
     // Whether the node declares a power source as available (2.3.2.4.2).
+    #[tactic(auto, using(crate::proofs::Common::supports_told))]
     pub fn supports(self, power_source: PowerSource) -> bool
         ensures { result ≡ supports self power_source }
     {

@@ -1,4 +1,6 @@
 // The names in the node power descriptor's fields: modes, sources and levels, each with its number (002; 2.3.2.4).
+// `bits` and `from_bits` are the Rust's names. The three stay three: each is a table of its own names, and all that a trait could share
+// is one call of `nibble`.
 #![tactic(auto)]
 
 ghost use Rattle.std.specs.Prelude.{◌≡◌};
