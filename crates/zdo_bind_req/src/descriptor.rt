@@ -30,18 +30,17 @@ pub fn parse_bind_req(asdu: &[u8]) -> Result<BindReq, Refusal>
 }
 
 // The destination of a bind request at a place (2.4.3.2.2): DstAddrMode(1), DstAddress(2 or 8), DstEndp(0 or 1).
+#[tactic(auto, using(crate::proofs::Parsed::mode_group, crate::proofs::Parsed::mode_device, crate::proofs::Parsed::mode_other))]
 fn read_destination(asdu: &[u8], at: usize) -> Result<BindReqDestination, Refusal>
     requires { at + 1 ≤ length asdu.now }
     ensures { says result ≡ destination_in asdu.now at }
 {
     let dst_addr_mode = read_u8(asdu, at);
-    if dst_addr_mode.value == Binding::GROUP {
-        return read_group(asdu, dst_addr_mode.next);
+    match dst_addr_mode.value {
+        Binding::GROUP => read_group(asdu, dst_addr_mode.next),
+        Binding::DEVICE => read_device(asdu, dst_addr_mode.next),
+        _ => Err(Refusal::Malformed),
     }
-    if dst_addr_mode.value == Binding::DEVICE {
-        return read_device(asdu, dst_addr_mode.next);
-    }
-    Err(Refusal::Malformed)
 }
 
 // The 16-bit group address at a place.

@@ -1,6 +1,6 @@
 // Node and power replies, and the errors of these, of active and of simple (000).
-ghost use Rattle.std.specs.Prelude.{◌≡◌, ℕ, ◌+◌, ◌^◌, ◌<◌, ◌≤◌, length};
-ghost use Rattle.zigbee_types.specs.Outcome.{answer, mapped, Wrote};
+ghost use Rattle.std.specs.Prelude.{◌≤◌, length};
+ghost use Rattle.zigbee_types.specs.Outcome.{Wrote};
 ghost use Rattle.zigbee_types.specs.Answers.{says};
 ghost use Rattle.zigbee_types.specs.Layout.{FieldsPut};
 ghost use Rattle.zdo_replies.specs.Codes.{discovery_code};
@@ -25,17 +25,6 @@ pub fn write_header(out: &mut [u8], seq: u8, status: u8, nwk_addr: ShortAddress)
     write_u16(out, at, nwk_addr.0)
 }
 
-// What a reply comes to whose later part, from a place on, came to `written`: the length of the whole.
-fn whole(at: usize, written: Result<usize, Refusal>) -> Result<usize, Refusal>
-    requires { (n : ℕ) → says written ≡ answer n → at + n < 2 ^ 64 }
-    ensures { says result ≡ mapped (λ n. at + n) (says written) }
-{
-    match written {
-        Ok(n) => Ok(at + n),
-        Err(why) => Err(why),
-    }
-}
-
 // Builds a Node_Desc_rsp (2.4.4.2.3): seq, status, NWKAddrOfInterest, node descriptor. Too short a buffer is refused, here as in
 // every writer below, and nothing is written.
 pub fn node_desc_rsp(
@@ -50,11 +39,11 @@ pub fn node_desc_rsp(
         return Err(Refusal::ShortBuffer);
     }
     let at = write_header(out, seq, STATUS_SUCCESS, nwk_addr);
-    let written = node.write(&mut out[at..]);
-    whole(at, written)
+    Ok(at + node.write(&mut out[at..])?)
 }
 
 // Builds a Power_Desc_rsp (2.4.4.2.4): seq, status, NWKAddrOfInterest, power descriptor.
+// (One generic function for both is no plainer: its trait and two impls would be longer than these five lines.)
 pub fn power_desc_rsp(
     power: PowerDescriptorConfig,
     seq: u8,
@@ -67,13 +56,12 @@ pub fn power_desc_rsp(
         return Err(Refusal::ShortBuffer);
     }
     let at = write_header(out, seq, STATUS_SUCCESS, nwk_addr);
-    let written = power.write(&mut out[at..]);
-    whole(at, written)
+    Ok(at + power.write(&mut out[at..])?)
 }
 
 // Builds a Node_Desc_rsp or Power_Desc_rsp reporting an error (2.4.4.2.3, 2.4.4.2.4): seq, status, NWKAddrOfInterest; the
 // descriptor is only present on success.
-#[tactic(auto, using(crate::proofs::Written::error_cut), unfolding(zigbee_types::specs::Outcome::mapped, zigbee_types::specs::Outcome::written, zigbee_types::specs::Answers::says))]
+#[tactic(auto, using(zigbee_types::proofs::Runs::run_cut), unfolding(zigbee_types::specs::Outcome::mapped, zigbee_types::specs::Outcome::written, zigbee_types::specs::Answers::says, zigbee_types::specs::Layout::size, zdo_replies::specs::Replies::header, zdo_replies::specs::Replies::descriptor_rsp_error))]
 pub fn descriptor_rsp_error(
     seq: u8,
     error: DiscoveryError,

@@ -31,11 +31,9 @@ pub fn parse_mgmt_leave_req(asdu: &[u8]) -> Result<MgmtLeaveReq, Refusal>
 }
 
 // The device that an address names; zero names none.
+#[tactic(auto, unfolding(zdo_requests::specs::Requests::option_ieee))]
 fn device_address(addr: u64) -> Option<IeeeAddress>
     ensures { result ≡ option_ieee addr }
 {
-    if addr == 0 {
-        return None;
-    }
-    Some(IeeeAddress(addr))
+    (addr != 0).then_some(IeeeAddress(addr))
 }

@@ -1,28 +1,38 @@
 -- Bytes behind a place of a buffer, and a list of bytes behind the header. Assumes nothing.
-use Rattle.std.specs.Prelude.{Ok, Err}
-use Prim.Native.Nat.{ℕ, ◌+◌, ◌-◌, ◌≤◌, ◌<◌, min}
+use Rattle.std.specs.Prelude.{Ok, Err, slice_index_or}
+use Prim.Native.Nat.{ℕ, suc, ◌+◌, ◌-◌, ◌%◌, ◌≤◌, ◌<◌, min}
 use native.Mathlib.Omega.{arith}
-use mathlib.Core.Path.{◌≡◌, sym, ◌∙◌}
-use mathlib.Core.List.{List, ◌++◌, map, append_assoc}
+use mathlib.Core.Path.{◌≡◌, refl, sym, ◌∙◌}
+use mathlib.Core.List.{List, [], ◌∷◌, ◌++◌, map, append_assoc}
 use lib.ListN.{length, take, drop, length-append}
-use lib.Seq.{sets, sets-eq, length-sets, length-take-le}
+use lib.Seq.{sets, sets-eq, length-sets, length-take-le, drop-drop}
+use mir.Syntax.{w8}
+use mir.Val.{Fits}
+use borrow.Rule.Slice.PartMut.{put_mid}
 use borrow.Author.Tests.{le-leb, lt-leb}
-use Rattle.zigbee_types.specs.Outcome.{Outcome, answer, refusal, mapped, fitted, written, Wrote}
+use Rattle.zigbee_types.specs.Outcome.{Outcome, answer, mapped, fitted, written, Wrote}
 use Rattle.zigbee_types.specs.Answers.{says}
-use Rattle.zigbee_types.specs.Bytes.{FieldPut}
+use Rattle.zigbee_types.specs.Bytes.{le, FieldPut}
 use Rattle.zigbee_types.specs.Layout.{byte, laid, size, FieldsPut}
 use Rattle.zigbee_types.specs.FieldLaws.{widths}
 use Rattle.zigbee_types.specs.Statuses.{SUCCESS}
 use Rattle.zigbee_types.specs.declared.Refusal.TheVariants.{ShortBuffer}
 use Rattle.zigbee_types.specs.declared.ShortAddress.{ShortAddress}
 use Rattle.zigbee_types.proofs.Fields.{put_counted}
-use Rattle.zigbee_types.proofs.Entries.{EntriesPut, entries_all}
 use Rattle.zigbee_types.proofs.Layouts.{laid_counted, size_entries}
 use Rattle.zigbee_types.proofs.Runs.{run_put_told, run_put_both, run_writes, run_full}
 use Rattle.zdo_desc_rsp.proofs.Written.{header_place}
-use Rattle.zdo_replies.specs.Replies.{header, endpoint_list, list_rsp, match_error_fields, match_desc_rsp_error}
+use Rattle.zdo_replies.specs.Replies.{header, endpoint_list, list_rsp}
 
 -- ---- bytes behind a place
+
+-- a list of bytes is what is laid of it
+laid_same : (xs : List ℕ) → ((i : ℕ) → Fits w8 (slice_index_or xs i 0)) → laid (map byte xs) ≡ xs
+unfolding laid le
+laid_same [] bytes = refl
+laid_same (x ∷ xs) bytes =
+    let same : x % 256 ≡ x = omega (arith, (bytes 0).fits) in
+    rw (same, laid_same xs (λ i. bytes (suc i)))
 
 module _ (at : ℕ) (s xs : List ℕ) (h : at ≤ length s) where
   bytes_long : length (laid (map byte xs)) ≡ length xs
@@ -50,6 +60,20 @@ module _ (at : ℕ) (s xs : List ℕ) (h : at ≤ length s) where
     unfolding says mapped fitted written
     append_writes p = record { said = rw (le-leb _ _ fits, front_long, p.moved, bytes_long); left = rw (le-leb _ _ fits, p.left) there }
 
+    -- as a copy of them does
+    pub append_copied :
+        {k : ℕ} {ys : List ℕ}
+        → ((i : ℕ) → Fits w8 (slice_index_or xs i 0))
+        → k ≡ length xs
+        → ys ≡ xs
+        → Wrote (answer (take at s ++ laid (map byte xs))) s (says (Ok (at + length xs))) (put_mid at k s ys)
+    append_copied bytes long same =
+        append_writes
+        (record {
+          moved = rw bytes_long;
+          left = rw (long, same, laid_same xs bytes, drop-drop, sets-eq xs s at room, append_assoc);
+        })
+
     -- and what was appended was put
     append_put :
         {told : Outcome ℕ} {t : List ℕ}
@@ -58,16 +82,6 @@ module _ (at : ℕ) (s xs : List ℕ) (h : at ≤ length s) where
     unfolding mapped fitted written
     append_put w =
         (rw (le-leb _ _ fits, front_long) at w.said, record { moved = rw bytes_long; left = rw (le-leb _ _ fits) at w.left ∙ sym there })
-
--- all of them, one in each turn of a loop
-pub append_end :
-    {at i k : ℕ} {s t xs : List ℕ}
-    → EntriesPut 1 xs i s at k t
-    → length xs ≤ i
-    → at ≤ length s
-    → length xs ≤ length s - at
-    → Wrote (answer (take at s ++ laid (map byte xs))) s (says (Ok k)) t
-append_end {at} {s = s} {xs = xs} p e h room = append_writes at s xs h (omega arith) (entries_all p e)
 
 -- ---- the reply
 
@@ -110,12 +124,3 @@ module _ (seq : ℕ) (a : ShortAddress) (xs s : List ℕ) where
       let room : n + length xs ≤ length u = omega (arith, put_counted q) in
       let (said, put) = append_put n u xs (omega arith) room w in
       rw said (list_writes p e q put h)
-
--- ---- an error
-
--- refused where there is no room for it
-pub error_cut : (seq status n : ℕ) → n < 3 → fitted n (match_desc_rsp_error seq status) ≡ refusal 5
-unfolding fitted match_desc_rsp_error match_error_fields size
-error_cut seq status n h =
-    let short : n < length (laid (match_error_fields seq status)) = rw (laid_counted (match_error_fields seq status)) h in
-    rw (lt-leb _ _ short)

@@ -15,10 +15,7 @@ use zigbee_types::{Refusal, ShortAddress};
 fn count_byte(count: usize) -> u8
     ensures { result ≡ min count 255 }
 {
-    if count > 255 {
-        return 255;
-    }
-    count as u8
+    u8::try_from(count).unwrap_or(255)
 }
 
 // Appends raw bytes at a place and tells the place behind them, or reports a short buffer and writes nothing.
@@ -29,19 +26,20 @@ fn append(out: &mut [u8], at: usize, bytes: &[u8]) -> Result<usize, Refusal>
     if out.len() - at < bytes.len() {
         return Err(Refusal::ShortBuffer);
     }
-    let mut at = at;
-    let mut i: usize = 0;
-    while i < bytes.len() {
-        at = write_u8(out, at, bytes[i]);
-        i += 1;
-    }
-    Ok(at)
+    let end = at + bytes.len();
+    out[at..end].copy_from_slice(bytes);
+    Ok(end)
 }
 
 // Builds a reply of SUCCESS that carries a list of bytes, and before it how many there are. Such is a list of endpoints; a descriptor
 // behind its length has the same form. Given more than 255 bytes it writes 255 as the count, and all of them. Too short a buffer is
 // refused, and nothing is written.
-pub fn list_rsp(seq: u8, nwk_addr: ShortAddress, list: &[u8], out: &mut [u8]) -> Result<usize, Refusal>
+pub fn list_rsp(
+    seq: u8,
+    nwk_addr: ShortAddress,
+    list: &[u8],
+    out: &mut [u8],
+) -> Result<usize, Refusal>
     ensures { Wrote (list_rsp seq nwk_addr list.now) out.old (says result) out.new }
 {
     if out.len() < 5 + list.len() {
@@ -54,15 +52,24 @@ pub fn list_rsp(seq: u8, nwk_addr: ShortAddress, list: &[u8], out: &mut [u8]) ->
 
 // Builds a Match_Desc_rsp (2.4.4.2.7): seq, status, NWKAddrOfInterest, MatchLength, MatchList. Given more than 255 endpoints it
 // writes 255 as MatchLength, and all of them. Too short a buffer is refused, and nothing is written.
-pub fn match_desc_rsp(seq: u8, nwk_addr: ShortAddress, matches: &[u8], out: &mut [u8]) -> Result<usize, Refusal>
+pub fn match_desc_rsp(
+    seq: u8,
+    nwk_addr: ShortAddress,
+    matches: &[u8],
+    out: &mut [u8],
+) -> Result<usize, Refusal>
     ensures { Wrote (list_rsp seq nwk_addr matches.now) out.old (says result) out.new }
 {
     list_rsp(seq, nwk_addr, matches, out)
 }
 
 // Builds a Match_Desc_rsp reporting an error (2.4.4.2.7): seq, status and a MatchLength of zero, without NWKAddrOfInterest.
-#[tactic(auto, using(crate::proofs::Written::error_cut), unfolding(zigbee_types::specs::Outcome::mapped, zigbee_types::specs::Outcome::written, zigbee_types::specs::Answers::says))]
-pub fn match_desc_rsp_error(seq: u8, error: DiscoveryError, out: &mut [u8]) -> Result<usize, Refusal>
+#[tactic(auto, using(zigbee_types::proofs::Runs::run_cut), unfolding(zigbee_types::specs::Outcome::mapped, zigbee_types::specs::Outcome::written, zigbee_types::specs::Answers::says, zigbee_types::specs::Layout::size, zdo_replies::specs::Replies::match_error_fields, zdo_replies::specs::Replies::match_desc_rsp_error))]
+pub fn match_desc_rsp_error(
+    seq: u8,
+    error: DiscoveryError,
+    out: &mut [u8],
+) -> Result<usize, Refusal>
     ensures { Wrote (match_desc_rsp_error seq (discovery_code error)) out.old (says result) out.new }
 {
     if out.len() < 3 {

@@ -21,14 +21,11 @@ pub struct NodeDescRsp {
 impl NodeDescRsp {
     // Stack revision the responder complies with, taken from the upper seven bits of the server mask (2.3.2.3.10); `None` without
     // a mask.
+    #[tactic(auto, unfolding(crate::specs::Readers::stack_revision_of))]
     pub fn stack_revision(self) -> Option<u8>
         ensures { result ≡ stack_revision_of self.server_mask }
     {
-        let server_mask = self.server_mask;
-        match server_mask {
-            Some(mask) => Some((mask >> 9) as u8),
-            None => None,
-        }
+        self.server_mask.map(|mask| (mask >> 9) as u8)
     }
 }
 
@@ -56,10 +53,7 @@ pub fn parse_node_desc_rsp(asdu: &[u8]) -> Result<NodeDescRsp, Refusal>
 fn server_mask(asdu: &[u8], status: u8) -> Option<u16>
     ensures { result ≡ server_mask_in (goes_further status asdu.now) asdu.now }
 {
-    if status != STATUS_SUCCESS {
-        return None;
-    }
-    if asdu.len() < 14 {
+    if status != STATUS_SUCCESS || asdu.len() < 14 {
         return None;
     }
     let mask = read_u16(asdu, 12);

@@ -138,10 +138,7 @@ impl AddrReply {
 fn read_associated(reply: &[u8], status: u8) -> Option<Associated>
     ensures { result ≡ associated_in (goes_further status reply.now) reply.now }
 {
-    if status != STATUS_SUCCESS {
-        return None;
-    }
-    if reply.len() < 14 {
+    if status != STATUS_SUCCESS || reply.len() < 14 {
         return None;
     }
     let num_assoc_dev = read_u8(reply, 12);

@@ -228,7 +228,7 @@ pub fn parse_simple_desc_req(asdu: &[u8]) -> Result<SimpleDescReq, Refusal>
 
 // Writes a Node_Desc_req (2.4.3.1.3) at the front of a buffer: seq, NWKAddrOfInterest(2). Too short a buffer is refused, and
 // nothing is written.
-#[tactic(auto, using(crate::proofs::Written::request_cut), unfolding(zigbee_types::specs::Outcome::mapped, zigbee_types::specs::Outcome::written, zigbee_types::specs::Answers::says))]
+#[tactic(auto, using(zigbee_types::proofs::Runs::run_cut), unfolding(zigbee_types::specs::Outcome::mapped, zigbee_types::specs::Outcome::written, zigbee_types::specs::Answers::says, zigbee_types::specs::Layout::size, crate::specs::Requests::addr_of_interest_fields, crate::specs::Requests::node_desc_req))]
 pub fn node_desc_req(
     seq: u8,
     nwk_addr_of_interest: ShortAddress,

@@ -6,7 +6,7 @@ use mathlib.Core.Path.{◌≡◌, refl}
 use mathlib.Core.List.{List, [], ◌∷◌, ◌++◌, append_assoc, append-nil}
 use lib.ListN.{length, get_or, length-append}
 use borrow.Author.Tests.{le-leb, lt-leb}
-use Rattle.zigbee_types.specs.Outcome.{answer, refusal, needing, Wrote}
+use Rattle.zigbee_types.specs.Outcome.{answer, refusal, needing, fitted, Wrote}
 use Rattle.zigbee_types.specs.Bytes.{FieldRead, FieldPut}
 use Rattle.zigbee_types.specs.Layout.{Field, laid, FieldsPut, size, fields_at, parsed}
 use Rattle.zigbee_types.specs.FieldLaws.{widths}
@@ -133,3 +133,10 @@ run_writes {fs} p h = wrote_stored (laid fs) (omega (arith, p.moved)) p.left (rw
 -- and refused where there is none
 pub run_full : (fs : List Field) (s : List ℕ) → length s < size (widths fs) → Wrote (answer (laid fs)) s (refusal 5) s
 run_full fs s h = wrote_full (laid fs) s (rw (laid_counted fs) h)
+
+-- which says of a writer that nothing fits
+pub run_cut : (fs : List Field) (n : ℕ) → n < size (widths fs) → fitted n (answer (laid fs)) ≡ refusal 5
+unfolding fitted
+run_cut fs n h =
+    let short : n < length (laid fs) = rw (laid_counted fs) h in
+    rw (lt-leb _ _ short)

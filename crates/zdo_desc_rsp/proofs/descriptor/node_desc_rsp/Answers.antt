@@ -4,7 +4,7 @@ use borrow.Author.Rules.{rules}
 use Rattle.zigbee_types.specs.Layout.{size}
 use Rattle.node_descriptor.specs.NodeDescriptor.{node_descriptor_of}
 use Rattle.zdo_replies.specs.Replies.{node_desc_rsp}
-use Rattle.zdo_desc_rsp.proofs.Written.{header_place, described_full, described_told, described_writes}
+use Rattle.zdo_desc_rsp.proofs.Written.{header_place, described_full, described_told, described_fits, described_writes}
 use Rattle.zdo_desc_rsp.proofs.descriptor.node_desc_rsp.Goals as goal
 
 pub returns-then-out-lt17 : goal.returns-then-out-lt17
@@ -19,10 +19,15 @@ pub slice_bounds-write-start : goal.slice_bounds-write-start
 unfolding size node_descriptor_of node_desc_rsp
 slice_bounds-write-start c = let at = header_place _ _ _ c.write_header-at.ensures in search rules
 
-pub whole-requires : goal.whole-requires
+pub returns-in_err-write : goal.returns-in_err-write
+unfolding size node_descriptor_of node_desc_rsp
+returns-in_err-write c =
+    absurd (described_told _ _ _ c.write_header-at.ensures (omega arith) _ c.in_err-write.ensures)
+
+pub overflow_add-result : goal.overflow_add-result
 unfolding size node_descriptor_of
-whole-requires c = described_told _ _ (header_place _ _ _ c.write_header-at.ensures) c.write-written.ensures tt
+overflow_add-result c = described_fits _ _ _ c.write_header-at.ensures (omega arith) _ c.in_ok-write.ensures tt
 
 pub returns : goal.returns
 unfolding size node_descriptor_of node_desc_rsp
-returns c = search (rules, header_place, described_writes)
+returns c = described_writes _ _ _ c.write_header-at.ensures (omega arith) _ c.in_ok-write.ensures

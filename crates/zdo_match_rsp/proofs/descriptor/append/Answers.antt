@@ -1,22 +1,10 @@
--- `append` meets its contract. The loop's invariant: the first i bytes were put. The measure is how many are left.
--- Assumes nothing.
-use Prim.Native.Nat.{◌-◌}
-use lib.ListN.{length}
-use borrow.Author.Rules.{rules}
-use Rattle.zigbee_types.proofs.Entries.{EntriesPut, entries_first, entries_next}
-use Rattle.zdo_match_rsp.proofs.Written.{append_full, append_end}
+-- `append` meets its contract: the bytes are copied behind the place. Assumes nothing.
+use native.Mathlib.Omega.{arith}
+use Rattle.zdo_match_rsp.proofs.Written.{append_full, append_copied}
 use Rattle.zdo_match_rsp.proofs.descriptor.append.Goals as goal
 
-ruleset laws = (rules, entries_first, entries_next, append_full, append_end)
-
 pub returns-then-out-at : goal.returns-then-out-at
-returns-then-out-at c = search laws
-
-pub loop-i-init : goal.loop-i-init
-loop-i-init c = search laws
-
-pub loop-i-preserved : goal.loop-i-preserved
-loop-i-preserved c = search laws
+returns-then-out-at c = append_full _ _ _ c.requires c.if-out-at.true
 
 pub returns : goal.returns
-returns c = search laws
+returns c = append_copied _ _ _ c.requires (omega arith) c.type_inv.bytes (omega arith) c.copy_from_slice.ensures.after
