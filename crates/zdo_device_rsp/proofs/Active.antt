@@ -1,5 +1,6 @@
 -- The active reply: a header, how many records there are, and their numbers. Assumes nothing.
 use Rattle.std.specs.Prelude.{Result, Ok, Err}
+use Rattle.std.specs.Result.{IsErr, IsErrAnd}
 use Prim.Native.Nat.{ℕ, ◌+◌, ◌≤◌, ◌<◌, min}
 use native.Mathlib.Numerals.{add-one}
 use native.Mathlib.Omega.{arith}
@@ -21,6 +22,7 @@ use Rattle.zigbee_types.specs.declared.Refusal.TheVariants.{BadTables, ShortBuff
 use Rattle.zigbee_types.specs.declared.ShortAddress.{ShortAddress}
 use Rattle.zigbee_types.proofs.Layouts.{laid_counted, size_entries}
 use Rattle.zigbee_types.proofs.Outcomes.{refused, wrote_refused, stored_front, wrote_bytes}
+use Rattle.zigbee_types.proofs.Passed.{passed}
 use Rattle.zigbee_types.proofs.Fields.{put_counted}
 use Rattle.zigbee_types.proofs.Runs.{run_put_none, run_put_both, run_put_last, run_writes}
 use Rattle.zdo_replies.specs.Replies.{header, endpoint_list, list_rsp}
@@ -28,7 +30,7 @@ use Rattle.zdo_match_rsp.proofs.Written.{list_full}
 use Rattle.zdo_device.specs.Tables.{used}
 use Rattle.zdo_device.specs.declared.descriptor.EndpointDescriptor.{EndpointDescriptor}
 use Rattle.zdo_device.specs.declared.descriptor.DeviceDescriptorConfig.{DeviceDescriptorConfig}
-use Rattle.zdo_device.proofs.Records.{used_counted, used_at, At, at_first, at_inside, at_next}
+use Rattle.zdo_device.proofs.Records.{used_counted}
 use Rattle.zdo_device_rsp.specs.TableReplies.{numbers, active_rsp_of, active_begun, active_ep_rsp}
 
 -- ---- what stands before the list
@@ -169,40 +171,36 @@ pub active_checked : (seq : ℕ) (a : ShortAddress) (d : DeviceDescriptorConfig)
 unfolding active_ep_rsp
 active_checked seq a d = refl
 
-pub record ListedUsed (d : DeviceDescriptorConfig) (n i : ℕ) (s : List ℕ) (from at : ℕ) (t : List ℕ) : Type 0 where
-  pub here : At d n i
-  pub same : length t ≡ length s
-  pub listed : Listed (used d) i s from at t
-
-module _ (seq : ℕ) (a : ShortAddress) (d : DeviceDescriptorConfig) (long : length d.endpoints ≡ 32) (r : Result ℕ Refusal) {before after : List ℕ} (w : Wrote (active_begun seq a d.endpoint_count (length before)) before (says r) after) where
+module _ (seq : ℕ) (a : ShortAddress) (d : DeviceDescriptorConfig) (long : length d.endpoints ≡ 32) {before after : List ℕ} where
   -- refused as the beginning is
-  pub used_refused : {why : Refusal} → r ≡ Err why → Wrote (active_ep_rsp seq a d) before (says (Err why)) after
+  pub used_refused :
+      (r : Result ℕ Refusal) (why : Refusal)
+      → Wrote (active_begun seq a d.endpoint_count (length before)) before (says (Err why)) after
+      → IsErr r × IsErrAnd r (λ e. e ≡ why)
+      → Wrote (active_ep_rsp seq a d) before (says r) after
   unfolding says
-  used_refused is = rw (active_checked seq a d) (begun_refused seq a d.endpoint_count before (used d) (used_few d long) (rw is at w))
+  used_refused r why w is =
+      rw (passed r why is, active_checked seq a d) (begun_refused seq a d.endpoint_count before (used d) (used_few d long) w)
 
-  module _ {from : ℕ} (is : r ≡ Ok from) where
+  module _ (from : ℕ) (w : Wrote (active_begun seq a d.endpoint_count (length before)) before (says (Ok from)) after) where
     begun : Wrote (active_begun seq a d.endpoint_count (length before)) before (answer from) after
     unfolding says
-    begun = rw is at w
+    begun = w
+
+    -- at most 32
+    pub used_count : d.endpoint_count ≤ 32
+    used_count = (begun_opened seq a d.endpoint_count before begun).few
 
     -- of none, behind the beginning
-    pub used_first : ListedUsed d d.endpoint_count 0 after from from after
-    used_first =
-        let o = begun_opened seq a d.endpoint_count before begun in
-        let counted = used_few d long o.few in
-        record { here = at_first long (omega (arith, o.few)); same = refl; listed = listed_first (used d) (rw counted (omega (arith, begun_room seq a d.endpoint_count before begun))) }
+    pub used_first : Listed (take d.endpoint_count d.endpoints) 0 after from from after
+    unfolding used
+    used_first = listed_first _ (rw (used_few d long used_count) (begun_room seq a d.endpoint_count before begun))
 
     -- of all of them
-    pub used_writes : {n i at : ℕ} {t : List ℕ} → ListedUsed d n i after from at t → n ≤ i → Wrote (active_ep_rsp seq a d) before (says (Ok at)) t
-    used_writes u h =
-        let o = begun_opened seq a d.endpoint_count before begun in
-        rw (active_checked seq a d) (listed_end u.listed seq a d.endpoint_count (used_few d long o.few) begun (rw u.here.counted h))
-
-module _ {d : DeviceDescriptorConfig} {n i from at : ℕ} {s t : List ℕ} (u : ListedUsed d n i s from at t) (h : i < n) where
-  pub used_room : at + 1 ≤ length t
-  used_room = listed_room u.listed (at_inside u.here h)
-
-  pub used_next : (z : EndpointDescriptor) {k : ℕ} {later : List ℕ} → FieldPut 1 (get_or d.endpoints i z).endpoint t at k later → ListedUsed d n (i + 1) s from k later
-  used_next z {k} {later} q =
-      let next : Listed (used d) (i + 1) s from k later = listed_next u.listed z (at_inside u.here h) (rw (used_at d i z (at_inside u.here h)) q) in
-      record { here = at_next u.here h; same = next.same; listed = next }
+    pub used_writes :
+        {i at : ℕ} {t : List ℕ}
+        → Listed (take d.endpoint_count d.endpoints) i after from at t
+        → length (take d.endpoint_count d.endpoints) ≤ i
+        → Wrote (active_ep_rsp seq a d) before (says (Ok at)) t
+    unfolding used
+    used_writes u h = rw (active_checked seq a d) (listed_end u seq a d.endpoint_count (used_few d long used_count) begun h)

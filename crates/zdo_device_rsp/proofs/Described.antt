@@ -1,5 +1,6 @@
 -- The simple reply: the descriptor is written into a scratch, and then handed on as a list of bytes. Assumes nothing.
 use Rattle.std.specs.Prelude.{Option, Some, None, Result, Ok, Err}
+use Rattle.std.specs.Result.{IsErr, IsErrAnd}
 use Prim.Native.Nat.{ℕ, ◌%◌, ◌/◌, ◌≤◌, ◌<◌, min, zero, suc}
 use native.Mathlib.Nat.{mod-eq_of_lt}
 use native.Mathlib.Omega.{arith}
@@ -21,6 +22,7 @@ use Rattle.zigbee_types.specs.declared.Refusal.TheVariants.{BadTables}
 use Rattle.zigbee_types.specs.declared.ShortAddress.{ShortAddress}
 use Rattle.zigbee_types.proofs.Outcomes.{refused, granted, wrote_refused, wrote_answer}
 use Rattle.zigbee_types.proofs.Outcomes as outcomes
+use Rattle.zigbee_types.proofs.Passed.{passed}
 use Rattle.zigbee_types.proofs.Runs.{laid_append}
 use Rattle.zigbee_types.proofs.Scans.{said_no, said_yes}
 use Rattle.simple_descriptor.specs.SimpleDescriptor.{Endpoint, endpoint_with, simple_descriptor_of, cluster_count, simple_written}
@@ -81,13 +83,9 @@ stands_in {e} {bytes} {before} {after} {n} told there =
     }
 
 -- a writer that told a length left it there
-pub desc_stands :
-    (e : Endpoint) {before after : List ℕ} {r : Result ℕ Refusal} {n : ℕ}
-    → Wrote (simple_written e) before (says r) after
-    → r ≡ Ok n
-    → Stands e n after
+pub desc_stands : (e : Endpoint) {before after : List ℕ} {n : ℕ} → Wrote (simple_written e) before (says (Ok n)) after → Stands e n after
 unfolding says
-desc_stands e w is = let (bytes, told, there) = wrote_answer (simple_written e) (rw is at w) in stands_in told there
+desc_stands e w = let (bytes, told, there) = wrote_answer (simple_written e) w in stands_in told there
 
 module _ {e : Endpoint} {n : ℕ} {scratch : List ℕ} (s : Stands e n scratch) where
   -- there are so many bytes
@@ -112,20 +110,20 @@ module _ (seq : ℕ) (a : ShortAddress) (e : Endpoint) where
 
   -- where a writer with room for 64 bytes refused, so is the reply, and by the same number
   pub desc_refused :
-      {before after : List ℕ} {r : Result ℕ Refusal} {why : Refusal} (out : List ℕ)
-      → Wrote (simple_written e) before (says r) after
-      → r ≡ Err why
+      {before after : List ℕ} (r : Result ℕ Refusal) (why : Refusal) (out : List ℕ)
+      → Wrote (simple_written e) before (says (Err why)) after
+      → IsErr r × IsErrAnd r (λ e. e ≡ why)
       → 64 ≤ length before
-      → Wrote (described_rsp seq a e) out (says (Err why)) out
+      → Wrote (described_rsp seq a e) out (says r) out
   unfolding says simple_written described_rsp and_then mapped fitted written
-  desc_refused {before} {after} {r} {why} out w is room = go (leb (cluster_count e) 28) refl
+  desc_refused {before} {after} r why out w is room = rw (passed r why is) (go (leb (cluster_count e) 28) refl)
     where
       go : (few : Bool) → leb (cluster_count e) 28 ≡ few → Wrote (described_rsp seq a e) out (says (Err why)) out
       go true t =
           let short = leb-true (cluster_count e) 28 t in
           let fits : length (laid (simple_descriptor_of e)) ≤ length before = omega (arith, simple_length e) in
-          absurd (refused (rw (is, t, le-leb _ _ fits) at w.said))
-      go false t = let said = rw (is, t) at w.said in record { said = rw t said; left = rw t }
+          absurd (refused (rw (t, le-leb _ _ fits) at w.said))
+      go false t = let said = rw t at w.said in record { said = rw t said; left = rw t }
 
 -- ---- the record
 
@@ -140,19 +138,19 @@ unfolding clusters_of endpoint_of
 own_written p e ins outs w = rw (ins, outs) at w
 
 module _ (seq : ℕ) (a : ShortAddress) (p : Pools) (d : DeviceDescriptorConfig) (n : ℕ) {before after : List ℕ} {told : Outcome ℕ} where
-  module _ {q : Option EndpointDescriptor} (f : endpoint_says q ≡ endpoint_record d n) where
+  module _ {q : Option EndpointDescriptor} (f : q ≡ endpoint_record d n) where
     -- the first record with the number answers
     pub simple_found :
         {e : EndpointDescriptor}
         → q ≡ Some e
         → Wrote (described_rsp seq a (endpoint_of p e)) before told after
         → Wrote (simple_rsp_of seq a p d n) before told after
-    unfolding simple_rsp_of option endpoint_says
+    unfolding simple_rsp_of option
     simple_found is w = rw (← f, is) w
 
     -- there is none
     pub simple_none : q ≡ None → Wrote (empty_rsp seq NOT_ACTIVE a) before told after → Wrote (simple_rsp_of seq a p d n) before told after
-    unfolding simple_rsp_of option endpoint_says
+    unfolding simple_rsp_of option
     simple_none is w = rw (← f, is) w
 
   -- of tables that are good

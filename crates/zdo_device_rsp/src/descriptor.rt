@@ -26,20 +26,21 @@ pub fn active_ep_rsp(
     ensures { Wrote (active_ep_rsp seq nwk_addr device) out.old (says result) out.new }
 {
     let count = device.endpoint_count;
-    let at = begin_active_ep_rsp(count, seq, nwk_addr, out)?;
-        let mut at = at;
-        let mut i: usize = 0;
-        while i < count {
-            let ep = device.endpoints[i];
-            at = write_u8(out, at, ep.endpoint);
-            i += 1;
-        }
-        Ok(at)
+    let mut at = begin_active_ep_rsp(count, seq, nwk_addr, out)?;
+    for ep in &device.endpoints[..count] {
+        at = write_u8(out, at, ep.endpoint);
+    }
+    Ok(at)
 }
 
 // Begins an Active_EP_rsp (2.4.4.2.6) of so many endpoints: what stands before the list. A count above 32 is refused, and then a buffer too short
 // for the whole reply; nothing is written in either case.
-pub fn begin_active_ep_rsp(count: usize, seq: u8, nwk_addr: ShortAddress, out: &mut [u8]) -> Result<usize, Refusal>
+pub fn begin_active_ep_rsp(
+    count: usize,
+    seq: u8,
+    nwk_addr: ShortAddress,
+    out: &mut [u8],
+) -> Result<usize, Refusal>
     ensures { Wrote (active_begun seq nwk_addr count (length out.old)) out.old (says result) out.new }
 {
     if count > 32 {

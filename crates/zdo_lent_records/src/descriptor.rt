@@ -1,14 +1,12 @@
 // Matching and the active list over a lent run of endpoint records (000; document 01, "Device tables and sizes"): the same answers as
-// over a device that holds them. A function over the run is a loop that takes one record in each turn; what is done with the record is
-// in a function of its own.
-ghost use Rattle.std.specs.Prelude.{min, ◌≡◌, true, ◌&&◌, length, take};
+// over a device that holds them.
+ghost use Rattle.std.specs.Prelude.{◌≡◌, take};
 ghost use Rattle.zigbee_types.specs.Outcome.{Wrote, Begun};
 ghost use Rattle.zigbee_types.specs.Answers.{says};
-ghost use Rattle.zdo_device.specs.Tables.{pools, record_fits, good_records, endpoint_of};
-ghost use Rattle.zdo_matching.specs.Matching.{wanted, matched_records, may_match, matched_with};
+ghost use Rattle.zdo_device.specs.Tables.{pools, good_records};
+ghost use Rattle.zdo_matching.specs.Matching.{matched_records};
 ghost use Rattle.zdo_matching.specs.Answers.{matching_says};
 ghost use Rattle.zdo_device_rsp.specs.TableReplies.{active_records};
-ghost use Rattle.zdo_lent_records.specs.Turns.{matching_begun, listed_with};
 
 use byte::write_u8;
 use zdo_device::descriptor::{EndpointDescriptor, good_sizes};
@@ -30,13 +28,10 @@ pub fn good_records<'a>(
 ) -> bool
     ensures { result ≡ good_records (pools inputs.now outputs.now) endpoints.now }
 {
-    let mut good = good_sizes(endpoints.len(), inputs.len(), outputs.len());
-    let mut i: usize = 0;
-    while i < endpoints.len() {
-        good = good_turn(good, endpoints[i], inputs, outputs);
-        i += 1;
+    if !good_sizes(endpoints.len(), inputs.len(), outputs.len()) {
+        return false;
     }
-    good
+    endpoints.iter().all(|ep| ep.fits(inputs, outputs))
 }
 
 // Writes the endpoints matching the request (2.4.4.2.7.1.1) at the front of `out`, as `matching_endpoints` does. A bad run is refused,
@@ -51,22 +46,17 @@ pub fn matching_endpoints_lent<'a>(
 ) -> Result<Matched, Refusal>
     ensures { Begun (matched_records (pools inputs.now outputs.now) endpoints.now request payload.now) out.old (matching_says result) out.new }
 {
-    let good = good_records(endpoints, inputs, outputs);
-    let mut matching = begin_matching(good, request, payload);
-    let mut i: usize = 0;
-    while i < endpoints.len() {
-        matching = match_turn(
-            matching,
-            endpoints[i],
-            inputs,
-            outputs,
-            request,
-            payload,
-            out,
-        );
-        i += 1;
+    if !good_records(endpoints, inputs, outputs) {
+        return Err(Refusal::BadTables);
     }
-    matching
+    if !good_places(request, payload) {
+        return Err(Refusal::Malformed);
+    }
+    let mut matched = Matched { written: 0 };
+    for ep in endpoints {
+        matched = match_record(matched, *ep, inputs, outputs, request, payload, out);
+    }
+    Ok(matched)
 }
 
 // Builds an Active_EP_rsp (2.4.4.2.6), as `active_ep_rsp` does. A run of more than 32 is refused, and then too short a buffer; nothing
@@ -79,73 +69,11 @@ pub fn active_ep_rsp_lent(
 ) -> Result<usize, Refusal>
     ensures { Wrote (active_records seq nwk_addr endpoints.now) out.old (says result) out.new }
 {
-    let mut written = begin_active_ep_rsp(endpoints.len(), seq, nwk_addr, out);
-    let mut i: usize = 0;
-    while i < endpoints.len() {
-        written = list_turn(written, endpoints[i], out);
-        i += 1;
+    let mut at = begin_active_ep_rsp(endpoints.len(), seq, nwk_addr, out)?;
+    for ep in endpoints {
+        at = write_u8(out, at, ep.endpoint);
     }
-    written
-}
-
-// ---- one record
-
-// Whether those before a record are good, and the record too.
-fn good_turn<'a>(good: bool, ep: EndpointDescriptor, inputs: &'a [u16], outputs: &'a [u16]) -> bool
-    ensures { result ≡ (good && record_fits (pools inputs.now outputs.now) ep) }
-{
-    good & ep.fits(inputs, outputs)
-}
-
-// What matching begins with: nothing found, or a refusal.
-fn begin_matching(good: bool, request: MatchDescReq, payload: &[u8]) -> Result<Matched, Refusal>
-    ensures { matching_says result ≡ matching_begun good request payload.now }
-{
-    if !good {
-        return Err(Refusal::BadTables);
-    }
-    if !good_places(request, payload) {
-        return Err(Refusal::Malformed);
-    }
-    Ok(Matched { written: 0 })
-}
-
-// What was found, with one record more. A refusal stays.
-fn match_turn<'a>(
-    matching: Result<Matched, Refusal>,
-    ep: EndpointDescriptor,
-    inputs: &'a [u16],
-    outputs: &'a [u16],
-    request: MatchDescReq,
-    payload: &[u8],
-    out: &mut [u8],
-) -> Result<Matched, Refusal>
-    requires { may_match (pools inputs.now outputs.now) ep request payload.now (length out.old) (matching_says matching) ≡ true }
-    ensures { Begun (matched_with (wanted request payload.now) (endpoint_of (pools inputs.now outputs.now) ep) out.old (matching_says matching)) out.old (matching_says result) out.new }
-{
-    match matching {
-        Ok(matched) => {
-            let found = match_record(matched, ep, inputs, outputs, request, payload, out);
-            Ok(found)
-        }
-        Err(why) => Err(why),
-    }
-}
-
-// What was listed, with one record more. A refusal stays.
-fn list_turn(written: Result<usize, Refusal>, ep: EndpointDescriptor, out: &mut [u8]) -> Result<usize, Refusal>
-    ensures { Wrote (listed_with ep out.old (says written)) out.old (says result) out.new }
-{
-    match written {
-        Ok(at) => {
-            if at >= out.len() {
-                return Err(Refusal::ShortBuffer);
-            }
-            let at = write_u8(out, at, ep.endpoint);
-            Ok(at)
-        }
-        Err(why) => Err(why),
-    }
+    Ok(at)
 }
 
 // ---- a run that is lent from an array
@@ -162,8 +90,14 @@ pub fn lend_matching_endpoints<'a>(
 ) -> Result<Matched, Refusal>
     ensures { Begun (matched_records (pools inputs.now outputs.now) (take count endpoints) request payload.now) out.old (matching_says result) out.new }
 {
-    let count = at_most_lent(count);
-    matching_endpoints_lent(&endpoints[..count], inputs, outputs, request, payload, out)
+    matching_endpoints_lent(
+        &endpoints[..count.min(LENT)],
+        inputs,
+        outputs,
+        request,
+        payload,
+        out,
+    )
 }
 
 // Lends them to the active list (2.4.4.2.6).
@@ -176,16 +110,5 @@ pub fn lend_active_ep_rsp(
 ) -> Result<usize, Refusal>
     ensures { Wrote (active_records seq nwk_addr (take count endpoints)) out.old (says result) out.new }
 {
-    let count = at_most_lent(count);
-    active_ep_rsp_lent(&endpoints[..count], seq, nwk_addr, out)
-}
-
-// How many records of the array a count reaches: all for a greater one.
-fn at_most_lent(count: usize) -> usize
-    ensures { result ≡ min count 33 }
-{
-    if count > LENT {
-        return LENT;
-    }
-    count
+    active_ep_rsp_lent(&endpoints[..count.min(LENT)], seq, nwk_addr, out)
 }

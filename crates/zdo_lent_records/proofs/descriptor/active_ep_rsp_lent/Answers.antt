@@ -1,15 +1,22 @@
 -- `active_ep_rsp_lent` meets its contract. Assumes nothing.
 use Rattle.std.proofs.Common.{rules}
-use Rattle.zdo_lent_records.proofs.Listing.{listing_first, listing_next, listing_end}
+use Rattle.zdo_device_rsp.proofs.Active.{listed_room, listed_next}
+use Rattle.zdo_lent_records.proofs.Listing.{run_refused, run_begun, run_listed}
 use Rattle.zdo_lent_records.proofs.descriptor.active_ep_rsp_lent.Goals as goal
 
-ruleset laws = (rules, listing_first, listing_next, listing_end)
+ruleset laws = (rules, listed_room, listed_next, run_refused, run_begun, run_listed)
 
-pub loop-i-init : goal.loop-i-init
-loop-i-init c = search laws
+pub returns-in_err-at : goal.returns-in_err-at
+returns-in_err-at c = let w = c.in_err-at.ensures in search laws
 
-pub loop-i-preserved : goal.loop-i-preserved
-loop-i-preserved c = search laws
+pub loop-ep-init : goal.loop-ep-init
+loop-ep-init c = let w = c.in_ok-at.ensures in search laws
+
+pub write_u8-at-requires : goal.write_u8-at-requires
+write_u8-at-requires c = search laws
+
+pub loop-ep-preserved : goal.loop-ep-preserved
+loop-ep-preserved c = search laws
 
 pub returns : goal.returns
-returns c = search laws
+returns c = let w = c.in_ok-at.ensures in search laws

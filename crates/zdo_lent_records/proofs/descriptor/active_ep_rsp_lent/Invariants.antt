@@ -1,12 +1,6 @@
--- `active_ep_rsp_lent`: header and count stand there, and behind them the numbers of the records before the i-th; or the answer is a
--- refusal. The measure is how many are left. Assumes nothing.
-use Rattle.std.proofs.Common.{length, ◌-◌}
-use Rattle.zigbee_types.specs.Answers.{says}
-use Rattle.zdo_lent_records.proofs.Listing.{Listing}
+-- `active_ep_rsp_lent`: header and count stand there, and behind them the numbers of the records so far. Assumes nothing.
+use Rattle.zdo_device_rsp.proofs.Active.{Listed}
 use Rattle.zdo_lent_records.proofs.descriptor.active_ep_rsp_lent.Given as goal
 
-abbrev pub invariant-loop-i : goal.invariant-loop-i
-invariant-loop-i l = Listing l.seq l.fn.nwk_addr l.endpoints l.fn.out l.i (says l.written) l.out
-
-abbrev pub decreases-loop-i : goal.decreases-loop-i
-decreases-loop-i l = length l.endpoints - l.i
+abbrev pub invariant-loop-ep : goal.invariant-loop-ep
+invariant-loop-ep l = Listed l.endpoints l.ep-index l.initial.out l.initial.at l.at l.out

@@ -1,15 +1,17 @@
--- `good_records` meets its contract. Assumes nothing.
+-- `good_records` meets its contract: the chain tests each record. Assumes nothing.
 use Rattle.std.proofs.Common.{rules}
-use Rattle.zdo_lent_records.proofs.Checking.{checking_first, checking_next, checking_end}
+use borrow.Author.Tests.{tests}
+use Rattle.std.proofs.lemmas.Iterator.{YieldsList-from_slice}
+use Rattle.std.proofs.lemmas.Iterator.Search.{all_from_yields_List}
+use Rattle.zdo_device.specs.Tables.{pools, record_fits}
+use Rattle.zdo_lent_records.proofs.Checking.{records_many, records_checked}
 use Rattle.zdo_lent_records.proofs.descriptor.good_records.Goals as goal
 
-ruleset laws = (rules, checking_first, checking_next, checking_end)
-
-pub loop-i-init : goal.loop-i-init
-loop-i-init c = search laws
-
-pub loop-i-preserved : goal.loop-i-preserved
-loop-i-preserved c = search laws
+pub returns-then-not-good_sizes : goal.returns-then-not-good_sizes
+returns-then-not-good_sizes c = search (rules, records_many)
 
 pub returns : goal.returns
-returns c = search laws
+returns c =
+    let from = YieldsList-from_slice c.args.endpoints.now cc in
+    let all = all_from_yields_List (record_fits (pools c.args.inputs.now c.args.outputs.now)) _ _ c.all.result c.all.ensures.ran from (λ x b q k. search (rules, tests)) in
+    search (rules, records_checked)

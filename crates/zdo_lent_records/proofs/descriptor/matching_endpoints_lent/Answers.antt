@@ -1,18 +1,26 @@
 -- `matching_endpoints_lent` meets its contract. Assumes nothing.
 use Rattle.std.proofs.Common.{rules}
-use Rattle.zdo_lent_records.proofs.Finding.{finding_first, finding_may, finding_next, finding_end}
+use Rattle.zigbee_types.proofs.Scans.{said_yes}
+use Rattle.zdo_matching.proofs.Found.{found_may, found_next}
+use Rattle.zdo_lent_records.proofs.Finding.{run_bad, run_past, run_first, run_found}
 use Rattle.zdo_lent_records.proofs.descriptor.matching_endpoints_lent.Goals as goal
 
-ruleset laws = (rules, finding_first, finding_may, finding_next, finding_end)
+ruleset laws = (rules, said_yes, found_may, found_next, run_bad, run_past, run_first, run_found)
 
-pub loop-i-init : goal.loop-i-init
-loop-i-init c = search laws
+pub returns-then-not-good_records : goal.returns-then-not-good_records
+returns-then-not-good_records c = search laws
 
-pub match_turn-matching-requires : goal.match_turn-matching-requires
-match_turn-matching-requires c = search laws
+pub returns-then-not-good_places : goal.returns-then-not-good_places
+returns-then-not-good_places c = search laws
 
-pub loop-i-preserved : goal.loop-i-preserved
-loop-i-preserved c = search laws
+pub loop-ep-init : goal.loop-ep-init
+loop-ep-init c = search laws
+
+pub match_record-matched-requires : goal.match_record-matched-requires
+match_record-matched-requires c = search laws
+
+pub loop-ep-preserved : goal.loop-ep-preserved
+loop-ep-preserved c = search laws
 
 pub returns : goal.returns
 returns c = search laws
