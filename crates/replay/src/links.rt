@@ -6,7 +6,7 @@ ghost use Rattle.std.specs.Prelude.{◌≤◌};
 use crate::out::Text;
 use crate::{bindings, words};
 use aps_binding_table::binding::{
-    BindingTable, LinkStatus, Linked, create_binding_link, remove_binding_link,
+    BindingError, BindingTable, Linked, create_binding_link, remove_binding_link,
 };
 use std::io;
 use std::io::Write;
@@ -67,8 +67,7 @@ fn behind(word: &[u8]) -> &[u8] {
 }
 
 // Takes the steps behind the first so many words, and puts the status of each, or `-` where there is none, and the table then.
-fn run(line: &[u8], passed: usize, table: BindingTable, text: &mut Text) -> io::Result<()> {
-    let mut table = table;
+fn run(line: &[u8], passed: usize, mut table: BindingTable, text: &mut Text) -> io::Result<()> {
     if words::arguments(line) < passed {
         write!(text, "-")?;
     }
@@ -90,12 +89,12 @@ fn step(table: BindingTable, word: &[u8]) -> Linked {
 }
 
 // Puts a status. The oracle never answers `R`: a refusal, which no table of this question earns, would show.
-fn put_status(status: LinkStatus, text: &mut Text) -> io::Result<()> {
+fn put_status(status: Result<(), BindingError>, text: &mut Text) -> io::Result<()> {
     let status = match status {
-        LinkStatus::Success => BindStatus::Success,
-        LinkStatus::InvalidBinding => BindStatus::NoEntry,
-        LinkStatus::TableFull => BindStatus::TableFull,
-        LinkStatus::Refused(_) => return text.refused(),
+        Ok(()) => BindStatus::Success,
+        Err(BindingError::InvalidBinding) => BindStatus::NoEntry,
+        Err(BindingError::TableFull) => BindStatus::TableFull,
+        Err(BindingError::Refused(_)) => return text.refused(),
     };
     write!(text, "{:02X}", status.code())
 }

@@ -19,6 +19,8 @@ mod tables;
 mod values;
 mod words;
 
+ghost use Rattle.std.specs.Prelude.{◌≤◌};
+
 use crate::out::Text;
 use std::io;
 use std::io::{Read, Stdin, Write};

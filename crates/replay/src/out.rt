@@ -1,4 +1,6 @@
 // The answer to a question, on its way to the standard output.
+ghost use Rattle.std.specs.Prelude.{◌≤◌};
+
 use crate::words;
 use std::io;
 use std::io::{Stdout, Write};

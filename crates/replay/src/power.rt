@@ -80,10 +80,8 @@ fn supports(line: &[u8], text: &mut Text) -> io::Result<()> {
 // The descriptor that is read from the BYTES behind the name of a question, or made of the first two where they are refused.
 fn descriptor_of(line: &[u8]) -> NodePowerDescriptor {
     let mut space = [0u8; words::BYTES];
-    match NodePowerDescriptor::try_read(words::bytes_in(line, 1, &mut space)) {
-        Ok(descriptor) => descriptor,
-        Err(_) => made_of(words::word_of(line, 1)),
-    }
+    let bytes = words::bytes_in(line, 1, &mut space);
+    NodePowerDescriptor::try_read(bytes).unwrap_or(made_of(words::word_of(line, 1)))
 }
 
 // The descriptor of a word's first two bytes.

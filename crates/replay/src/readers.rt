@@ -127,5 +127,9 @@ fn put_status(reply: StatusReply, text: &mut Text) -> io::Result<()> {
 // Puts what most replies begin with.
 pub(crate) fn put_header(header: ReplyHeader, text: &mut Text) -> io::Result<()> {
     let address = header.nwk_addr_of_interest.0;
-    write!(text, "{:02X} {:02X} {address:04X}", header.seq, header.status)
+    write!(
+        text,
+        "{:02X} {:02X} {address:04X}",
+        header.seq, header.status
+    )
 }

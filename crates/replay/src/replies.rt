@@ -124,7 +124,11 @@ where
 {
     let why = discovery_error(words::u8_in(line, 2));
     let address = ShortAddress(words::u16_in(line, 3));
-    write(line, |_line, seq, buffer| writer(seq, why, address, buffer), text)
+    write(
+        line,
+        |_line, seq, buffer| writer(seq, why, address, buffer),
+        text,
+    )
 }
 
 // Writes an address reply that reports an error: behind the question's name stand NUMBER REASON IEEE SHORT BUFFER.

@@ -36,13 +36,21 @@ pub(crate) fn answer(line: &[u8], text: &mut Text) -> io::Result<()> {
 // Puts a request for a short address.
 fn put_nwk_addr(request: NwkAddrReq, text: &mut Text) -> io::Result<()> {
     let address = request.ieee_addr.0;
-    write!(text, "{:02X} {address:016X} {:02X}", request.seq, request.request_type)
+    write!(
+        text,
+        "{:02X} {address:016X} {:02X}",
+        request.seq, request.request_type
+    )
 }
 
 // Puts a request for an IEEE address.
 fn put_ieee_addr(request: IeeeAddrReq, text: &mut Text) -> io::Result<()> {
     let address = request.nwk_addr_of_interest.0;
-    write!(text, "{:02X} {address:04X} {:02X}", request.seq, request.request_type)
+    write!(
+        text,
+        "{:02X} {address:04X} {:02X}",
+        request.seq, request.request_type
+    )
 }
 
 // Puts the address that a request is about.
@@ -63,7 +71,11 @@ fn match_desc(line: &[u8], text: &mut Text) -> io::Result<()> {
 // Puts a match request, and its clusters, which stand in a payload.
 fn put_match_desc(request: MatchDescReq, bytes: &[u8], text: &mut Text) -> io::Result<()> {
     let address = request.nwk_addr_of_interest.0;
-    write!(text, "{:02X} {address:04X} {:04X}", request.seq, request.profile_id)?;
+    write!(
+        text,
+        "{:02X} {address:04X} {:04X}",
+        request.seq, request.profile_id
+    )?;
     put_places(request.input_clusters, text)?;
     put_places(request.output_clusters, text)?;
     put_list(bytes, request.input_clusters, text)?;

@@ -66,24 +66,30 @@ fn endpoint(line: &[u8], text: &mut Text) -> io::Result<()> {
     let number = words::u8_in(line, 4);
     let device = device_of(tables, number, 0);
     match device.endpoint(number) {
-        Some(ep) => put_endpoint(ep, device, tables, text),
+        Some(ep) => {
+            put_record(ep, text)?;
+            put_pools(device, number, tables, text)
+        }
         None => write!(text, "-"),
     }
 }
 
-// Puts a record of a device, and the parts of the pools that the device says are its own.
-fn put_endpoint(
-    ep: EndpointDescriptor,
+// Puts the fields of a record that stand before its parts of the pools.
+fn put_record(ep: EndpointDescriptor, text: &mut Text) -> io::Result<()> {
+    write!(
+        text,
+        "{:02X}{:04X}{:04X}{:02X}",
+        ep.endpoint, ep.profile_id, ep.device_id, ep.device_version
+    )
+}
+
+// Puts an endpoint's parts of the two pools.
+fn put_pools(
     device: DeviceDescriptorConfig,
+    number: u8,
     tables: Tables<'_>,
     text: &mut Text,
 ) -> io::Result<()> {
-    let number = ep.endpoint;
-    write!(
-        text,
-        "{number:02X}{:04X}{:04X}{:02X}",
-        ep.profile_id, ep.device_id, ep.device_version
-    )?;
     let inputs = device.endpoint_clusters(Side::Input, number, tables.inputs, tables.outputs);
     put_clusters(inputs, text)?;
     let outputs = device.endpoint_clusters(Side::Output, number, tables.inputs, tables.outputs);
@@ -116,13 +122,7 @@ fn supports_endpoint(line: &[u8], text: &mut Text) -> io::Result<()> {
 // Puts the answer to a write: behind its name stand arguments of its own, then from a word on TABLES, and BUFFER. It is written in two
 // forms, from records that a device holds and from records that are lent, each on a buffer of its own, and where they do not agree the
 // answer is `differ`. (A simple reply has one form only.)
-fn write<H, L>(
-    line: &[u8],
-    first: usize,
-    held: H,
-    lent: L,
-    text: &mut Text,
-) -> io::Result<()>
+fn write<H, L>(line: &[u8], first: usize, held: H, lent: L, text: &mut Text) -> io::Result<()>
 where
     H: FnOnce(&[u8], Tables<'_>, &mut [u8]) -> Result<usize, Refusal>,
     L: FnOnce(&[u8], Tables<'_>, &mut [u8]) -> Result<usize, Refusal>,
@@ -177,14 +177,25 @@ fn lent_matching(line: &[u8], tables: Tables<'_>, buffer: &mut [u8]) -> Result<u
 // Writes an active reply: behind the question's name stand NUMBER SHORT TABLES BUFFER.
 fn active_ep(line: &[u8], tables: Tables<'_>, buffer: &mut [u8]) -> Result<usize, Refusal> {
     let address = ShortAddress(words::u16_in(line, 2));
-    active_ep_rsp(device_of(tables, 0xEE, 0), words::u8_in(line, 1), address, buffer)
+    active_ep_rsp(
+        device_of(tables, 0xEE, 0),
+        words::u8_in(line, 1),
+        address,
+        buffer,
+    )
 }
 
 // The same from records that are lent.
 fn lent_active_ep(line: &[u8], tables: Tables<'_>, buffer: &mut [u8]) -> Result<usize, Refusal> {
     let seq = words::u8_in(line, 1);
     let address = ShortAddress(words::u16_in(line, 2));
-    lend_active_ep_rsp(records_of(tables, 0xEE, 0), count_of(tables), seq, address, buffer)
+    lend_active_ep_rsp(
+        records_of(tables, 0xEE, 0),
+        count_of(tables),
+        seq,
+        address,
+        buffer,
+    )
 }
 
 // Writes a simple reply: behind the question's name stand NUMBER SHORT NUMBER TABLES BUFFER.
@@ -193,7 +204,15 @@ fn simple_desc(line: &[u8], tables: Tables<'_>, buffer: &mut [u8]) -> Result<usi
     let address = ShortAddress(words::u16_in(line, 2));
     let number = words::u8_in(line, 3);
     let device = device_of(tables, number, 0);
-    simple_desc_rsp(device, seq, address, number, tables.inputs, tables.outputs, buffer)
+    simple_desc_rsp(
+        device,
+        seq,
+        address,
+        number,
+        tables.inputs,
+        tables.outputs,
+        buffer,
+    )
 }
 
 // A record of this endpoint and profile that has the whole of both pools. It stands behind the records of the tables: no answer may go

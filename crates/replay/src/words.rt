@@ -262,9 +262,10 @@ fn hex(digits: &[u8]) -> u64 {
 fn decimal(digits: &[u8]) -> usize
     ensures { result < 1000000000 }
 {
-    let number = digits
-        .iter()
-        .fold(0, |number, last| number % 100000000 * 10 + usize::from(digit(*last) % 10));
+    let number = digits.iter().fold(
+        0,
+        |number, last| number % 100000000 * 10 + usize::from(digit(*last) % 10),
+    );
     number % 1000000000
 }
 
