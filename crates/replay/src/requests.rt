@@ -1,6 +1,7 @@
 // The questions about requests (oracle/README.md, "Requests").
 use crate::out::{Text, put_read};
 use crate::{bindings, replies, words};
+use byte::Field;
 use std::io;
 use std::io::Write;
 use zdo_bind_req::descriptor::parse_bind_req;
@@ -98,7 +99,7 @@ fn put_list(bytes: &[u8], list: Places, text: &mut Text) -> io::Result<()> {
         if bytes.len() < 2 || bytes.len() - 2 < place {
             return text.unknown();
         }
-        let cluster = byte::read_u16(bytes, place);
+        let cluster = u16::read(bytes, place);
         write!(text, "{:04X}", cluster.value)?;
         place = cluster.next;
     }
