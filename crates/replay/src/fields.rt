@@ -3,8 +3,8 @@
 ghost use Rattle.std.specs.Prelude.{◌≤◌};
 
 use crate::out::Text;
-use byte::Field;
 use crate::{node, words};
+use byte::Field;
 use std::fmt::Radix;
 use std::io;
 use std::io::Write;
