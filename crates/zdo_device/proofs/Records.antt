@@ -1,87 +1,26 @@
--- The records in use, for a loop that goes through them, and what a check of them says. Assumes nothing.
+-- The records in use: what a search through them finds, and what a check of them says. Assumes nothing.
 use Rattle.std.specs.Prelude as std
 use Rattle.std.specs.Prelude.{Option, Some, None}
 use Rattle.std.specs.List.{list_all}
 use Rattle.zdo_device.proofs.Chains.{same_find, same_all}
-use Prim.Native.Nat.{ℕ, ◌+◌, ◌≤◌, ◌<◌, min}
-use native.Mathlib.Numerals.{add-one}
+use Prim.Native.Nat.{ℕ, ◌≤◌, min}
 use native.Mathlib.Omega.{arith}
 use mathlib.Core.Path.{◌≡◌, refl, sym, ◌∙◌}
 use mathlib.Core.Bool.{Bool, true, false, ◌&&◌, not, and-eq-true_iff}
-use mathlib.Core.List.{[], ◌∷◌, ◌++◌}
 use lib.Dec.{eqb, leb}
-use lib.ListN.{length, get_or, take, drop, drop_of_length-le, length-take}
-use lib.Seq.{take-suc, get_or-take, take_all}
+use lib.ListN.{length, take, length-take}
+use lib.Seq.{take_all}
 use borrow.Author.Tests.{leb-true, leb-false, le-leb}
 use Rattle.zigbee_types.specs.Lists.{all}
-use Rattle.zigbee_types.proofs.Elements.{front_next}
-use Rattle.zigbee_types.proofs.Scans.{all_left, find_all, said_no}
+use Rattle.zigbee_types.proofs.Scans.{find_all, said_no}
 use Rattle.zdo_device.specs.Tables.{Pools, used, endpoint_record, record_fits, good_sizes, good_records, good_device}
 use Rattle.zdo_device.specs.declared.descriptor.EndpointDescriptor.{EndpointDescriptor}
 use Rattle.zdo_device.specs.declared.descriptor.DeviceDescriptorConfig.{DeviceDescriptorConfig}
 
-module _ (d : DeviceDescriptorConfig) where
-  -- there are as many as the count says, and at most the thirty-two
-  pub used_counted : length d.endpoints ≡ 32 → length (used d) ≡ min d.endpoint_count 32
-  unfolding used
-  used_counted e = rw (length-take, e)
-
-  module _ (i : ℕ) where
-    -- the next one, and those behind it
-    pub used_next :
-        (z : EndpointDescriptor) → i < length (used d) → drop i (used d) ≡ get_or d.endpoints i z ∷ drop (i + 1) (used d)
-    unfolding used
-    used_next z h = front_next d.endpoint_count d.endpoints i z h
-
-    -- one more than the first i
-    pub used_done :
-        (z : EndpointDescriptor) → i < length (used d) → take (i + 1) (used d) ≡ take i (used d) ++ (get_or d.endpoints i z ∷ [])
-    unfolding used
-    used_done z h =
-        let inside : i < d.endpoint_count = omega (arith, rw length-take at h) in
-        rw (add-one, take-suc (take d.endpoint_count d.endpoints) i z h, get_or-take d.endpoint_count d.endpoints i z inside)
-
-    -- the next one is the one at its place
-    pub used_at : (z : EndpointDescriptor) → i < length (used d) → get_or (used d) i z ≡ get_or d.endpoints i z
-    unfolding used
-    used_at z h = get_or-take d.endpoint_count d.endpoints i z (omega (arith, rw length-take at h))
-
-    -- where all pass a test, so does the next one
-    pub used_all :
-        (p : EndpointDescriptor → Bool) (z : EndpointDescriptor) → i < length (used d) → all p (used d) ≡ true → p (get_or d.endpoints i z) ≡ true
-    used_all p z h t = all_left p i (used d) (used_next z h) t
-
-    -- none is left
-    pub used_end : length (used d) ≤ i → drop i (used d) ≡ []
-    used_end h = drop_of_length-le (used d) h
-
--- ---- a loop
-
--- a loop over n records in use stands at the i-th
-pub record At (d : DeviceDescriptorConfig) (n i : ℕ) : Type 0 where
-  pub within : i ≤ n
-  pub few : n ≤ 32
-  pub counted : length (used d) ≡ n
-
--- at the first
-pub at_first : {d : DeviceDescriptorConfig} {n : ℕ} → length d.endpoints ≡ 32 → n ≡ min d.endpoint_count 32 → At d n 0
-at_first {d} e h = record { within = omega arith; few = omega arith; counted = used_counted d e ∙ sym h }
-
-module _ {d : DeviceDescriptorConfig} {n i : ℕ} (l : At d n i) where
-  pub at_inside : i < n → i < length (used d)
-  at_inside h = rw l.counted h
-
-  -- at the next
-  pub at_next : i < n → At d n (i + 1)
-  at_next h = record { within = omega arith; few = l.few; counted = l.counted }
-
-  -- that one, and those behind it
-  pub at_here : (z : EndpointDescriptor) → i < n → drop i (used d) ≡ get_or d.endpoints i z ∷ drop (i + 1) (used d)
-  at_here z h = used_next d i z (at_inside h)
-
-  -- at the end
-  pub at_end : n ≤ i → drop i (used d) ≡ []
-  at_end h = used_end d i (rw l.counted h)
+-- there are as many as the count says, and at most the thirty-two
+pub used_counted : (d : DeviceDescriptorConfig) → length d.endpoints ≡ 32 → length (used d) ≡ min d.endpoint_count 32
+unfolding used
+used_counted d e = rw (length-take, e)
 
 -- ---- the search for a number
 

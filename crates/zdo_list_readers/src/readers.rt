@@ -52,7 +52,8 @@ impl ListReply {
 
 // ---- match
 
-// A Match_Desc_rsp (2.4.4.2.7): with SUCCESS its list; with another status the sequence number and that status alone.
+// A Match_Desc_rsp (2.4.4.2.7): with SUCCESS its list; with another status the sequence number and that status alone. (No `Result`: a
+// match that failed is a reply that was read, and not a refusal.)
 #[derive(Clone, Copy)]
 pub enum MatchReply {
     Matched(ListReply),

@@ -1,9 +1,9 @@
 -- Replies that begin with the header: what follows from what its reader said, and a descriptor behind it. Assumes nothing.
 use Rattle.std.specs.Prelude.{Result, Ok, Err}
-use Rattle.std.specs.Result.{IsErr, IsErrAnd}
+use Rattle.std.specs.Result.{IsOkAnd, MatchResult}
 use Prim.Native.Nat.{ℕ, ◌-◌, ◌≤◌}
 use native.Mathlib.Omega.{arith}
-use mathlib.Core.Path.{◌≡◌, refl, sym}
+use mathlib.Core.Path.{◌≡◌, sym}
 use mathlib.Core.Bool.{true}
 use mathlib.Core.List.{List}
 use lib.ListN.{length, take, drop}
@@ -15,7 +15,6 @@ use Rattle.zigbee_types.specs.Statuses.{SUCCESS}
 use Rattle.zigbee_types.specs.declared.Refusal.{Refusal}
 use Rattle.zigbee_types.proofs.Outcomes.{granted}
 use Rattle.zigbee_types.proofs.Parts.{part_whole}
-use Rattle.zigbee_types.proofs.Passed.{passed_mapped}
 use Rattle.zdo_readers.specs.Readers.{header_widths, header_in, descriptor_reply_in}
 use Rattle.zigbee_types.specs.Answers.{says}
 use Rattle.zdo_readers.specs.declared.readers.ReplyHeader.{ReplyHeader}
@@ -53,16 +52,14 @@ module _ (bytes : List ℕ) (h : ReplyHeader) (said : says (Ok h) ≡ header_in 
           let yes : eqb h.status SUCCESS ≡ true = rw ok in
           headed _ (rw (yes, ← part_whole 4 bytes, ← read) t)
 
-      pub described_read :
-          (d : D)
-          → says (Ok d) ≡ descriptorIn (take (length bytes - 4) (drop 4 bytes))
-          → answer (with h d) ≡ descriptor_reply_in descriptorIn with without bytes
-      unfolding says mapped
-      described_read d read = described read refl
-
-      pub described_cut :
-          (r : Result R Refusal) (why : Refusal)
-          → says {A = D} (Err why) ≡ descriptorIn (take (length bytes - 4) (drop 4 bytes))
-          → IsErr r × IsErrAnd r (λ e. e ≡ why)
+      -- and where that is made a reply of, it is this one
+      pub described_made :
+          (q : Result D Refusal) (r : Result R Refusal) (P : D → R → Type 0)
+          → says q ≡ descriptorIn (take (length bytes - 4) (drop 4 bytes))
+          → ((d : D) (x : R) → P d x → x ≡ with h d)
+          → MatchResult q (λ d. IsOkAnd r (P d)) (λ e. r ≡ Err e)
           → says r ≡ descriptor_reply_in descriptorIn with without bytes
-      described_cut r why read handed = described read (passed_mapped r why refl handed (with h))
+      unfolding says mapped
+      described_made (Ok d) (Ok x) P read made p = described read (rw (made d x p))
+      described_made (Ok d) (Err _) P read made p = absurd p
+      described_made (Err why) r P read made e = described read (rw e)

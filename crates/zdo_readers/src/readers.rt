@@ -58,14 +58,17 @@ impl NodeReply {
             let descriptor = None;
             return Ok(NodeReply { header, descriptor });
         }
-        let descriptor = Some(NodeDescriptor::try_read(&reply[4..])?);
-        Ok(NodeReply { header, descriptor })
+        NodeDescriptor::try_read(&reply[4..]).map(|d| NodeReply {
+            header,
+            descriptor: Some(d),
+        })
     }
 }
 
 // ---- power
 
-// A Power_Desc_rsp (2.4.4.2.4).
+// A Power_Desc_rsp (2.4.4.2.4). (One generic reply for both is no plainer: a trait for the descriptor's reader, its two impls and a name
+// for either reply would be longer than this type.)
 #[derive(Clone, Copy)]
 pub struct PowerReply {
     pub header: ReplyHeader,
@@ -82,8 +85,10 @@ impl PowerReply {
             let descriptor = None;
             return Ok(PowerReply { header, descriptor });
         }
-        let descriptor = Some(NodePowerDescriptor::try_read(&reply[4..])?);
-        Ok(PowerReply { header, descriptor })
+        NodePowerDescriptor::try_read(&reply[4..]).map(|d| PowerReply {
+            header,
+            descriptor: Some(d),
+        })
     }
 }
 

@@ -209,7 +209,8 @@ pub fn parse_addr_of_interest(asdu: &[u8]) -> Result<ShortAddress, Refusal>
     Ok(nwk_addr_of_interest)
 }
 
-// Parses a Simple_Desc_req (2.4.3.1.5): seq, NWKAddrOfInterest(2), EndPoint(1).
+// Parses a Simple_Desc_req (2.4.3.1.5): seq, NWKAddrOfInterest(2), EndPoint(1). (An IEEE_addr_req's reads, into the type and the fields
+// that the Rust names.)
 pub fn parse_simple_desc_req(asdu: &[u8]) -> Result<SimpleDescReq, Refusal>
     ensures { says result ≡ simple_desc_req_in asdu.now }
 {
@@ -227,7 +228,7 @@ pub fn parse_simple_desc_req(asdu: &[u8]) -> Result<SimpleDescReq, Refusal>
 }
 
 // Writes a Node_Desc_req (2.4.3.1.3) at the front of a buffer: seq, NWKAddrOfInterest(2). Too short a buffer is refused, and
-// nothing is written.
+// nothing is written. (The place is passed and returned, document 01's form.)
 #[tactic(auto, using(zigbee_types::proofs::Runs::run_cut), unfolding(zigbee_types::specs::Outcome::mapped, zigbee_types::specs::Outcome::written, zigbee_types::specs::Answers::says, zigbee_types::specs::Layout::size, crate::specs::Requests::addr_of_interest_fields, crate::specs::Requests::node_desc_req))]
 pub fn node_desc_req(
     seq: u8,

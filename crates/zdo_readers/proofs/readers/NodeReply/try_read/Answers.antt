@@ -1,8 +1,9 @@
 -- `NodeReply::try_read` meets its contract: the header, and what follows by its status. Assumes nothing.
 use borrow.Author.Rules.{rules}
 use mathlib.Core.Path.{refl}
+use Rattle.std.proofs.iter.Serving.{serving}
 use Rattle.zigbee_types.proofs.Passed.{passed_then}
-use Rattle.zdo_readers.proofs.Headed.{header_long, described_none, described_read, described_cut}
+use Rattle.zdo_readers.proofs.Headed.{header_long, described_none, described_made}
 use Rattle.zdo_readers.specs.Readers.{descriptor_reply_in, node_reply_in}
 use Rattle.zigbee_types.specs.Answers.{says}
 use Rattle.zdo_readers.proofs.readers.NodeReply.try_read.Goals as goal
@@ -23,10 +24,6 @@ slice_bounds-try_read-count c = search laws
 pub slice_bounds-try_read-start : goal.slice_bounds-try_read-start
 slice_bounds-try_read-start c = search laws
 
-pub returns-in_err-try_read : goal.returns-in_err-try_read
-unfolding node_reply_in
-returns-in_err-try_read c = described_cut _ _ c.in_ok-header.ensures _ _ _ (search rules) _ _ c.in_err-try_read.ensures (search rules)
-
 pub returns : goal.returns
 unfolding node_reply_in says
-returns c = described_read _ _ c.in_ok-header.ensures _ _ _ (search rules) _ c.in_ok-try_read.ensures
+returns c = described_made _ _ c.in_ok-header.ensures _ _ _ (search rules) _ _ _ (search rules) (λ d x p. grind serving) c.map.ensures.cases
