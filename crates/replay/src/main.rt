@@ -32,7 +32,7 @@ const LINE: usize = 16384;
 const CHUNK: usize = 65536;
 
 // The line that is read: its characters stand at the front of the array, and are so many. There is room for one more than a question
-// may have, so that a line that is too long shows; what there is no room for is left out.
+// may have, so that a line that is too long shows; what there is no room for is left out. (An array: there is no heap.)
 #[derive(Drop)]
 struct Line {
     characters: [u8; LINE + 1],

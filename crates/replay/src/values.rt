@@ -3,7 +3,7 @@
 use node_descriptor::LogicalType;
 use power_names::{CurrentPowerMode, CurrentPowerSourceLevel, PowerSource};
 
-// A kind of such values.
+// A kind of such values. (Not by the library's `bits` and `from_bits`, since these are asked about.)
 pub(crate) trait Named {
     // The value that a number stands for.
     fn of_number(number: u16) -> Self;

@@ -29,7 +29,8 @@ pub(crate) const BYTES: usize = 8192;
 // The most clusters of an argument.
 pub(crate) const CLUSTERS: usize = 4096;
 
-// Which of some questions a line asks, the first being 0. They have a `;` between them.
+// Which of some questions a line asks, the first being 0. They have a `;` between them. (By place: an enum would name each question a
+// third time, beside the list and the match.)
 pub(crate) fn which(line: &[u8], questions: &[u8]) -> Option<usize> {
     questions
         .split(|character| *character == b';')
@@ -157,7 +158,7 @@ fn has_digits(word: &[u8], base: u8) -> bool {
     word.iter().all(|character| digit(*character) < base)
 }
 
-// What a character counts as a digit: 16 where it is none.
+// What a character counts as a digit: 16 where it is none. (Not by `to_digit`, for which small letters are digits too.)
 fn digit(character: u8) -> u8 {
     match character {
         b'0'..=b'9' => character - b'0',
