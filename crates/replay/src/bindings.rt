@@ -1,22 +1,23 @@
 // The questions about the entries of the binding table (oracle/README.md, "Binding table"), and the entries that a word says.
 use crate::out::Text;
 use crate::words::{u8_at, u16_at};
-use crate::{links, out, words};
+use crate::{links, words};
 use aps_binding::binding::Binding;
 use std::io;
+use std::io::Write;
 use zigbee_types::{GroupAddress, IeeeAddress};
 
 // Puts the answer to a question about entries, or hands the line on.
-pub(crate) fn answer(line: &[u8], text: Text) -> io::Result<Text> {
+pub(crate) fn answer(line: &[u8], text: &mut Text) -> io::Result<()> {
     let questions = b"Binding::group 1 2 2;\
         Binding::device 1 2 8 1;\
         Binding::matches B 1 2;\
         Binding::eq B B";
     match words::which(line, questions) {
-        0 => put_entry(group(line), text),
-        1 => put_entry(device(line), text),
-        2 => out::flag(text, matches(line)),
-        3 => out::flag(text, eq(line)),
+        Some(0) => put_entry(group(line), text),
+        Some(1) => put_entry(device(line), text),
+        Some(2) => text.flag(matches(line)),
+        Some(3) => text.flag(eq(line)),
         _ => links::answer(line, text),
     }
 }
@@ -48,8 +49,7 @@ fn matches(line: &[u8]) -> bool {
 
 // Whether two entries are equal: behind the question's name stand ENTRY ENTRY.
 fn eq(line: &[u8]) -> bool {
-    let entry = entry_of(words::word_of(line, 1));
-    entry.eq(entry_of(words::word_of(line, 2)))
+    entry_of(words::word_of(line, 1)) == entry_of(words::word_of(line, 2))
 }
 
 // The entry that a word says.
@@ -59,42 +59,42 @@ pub(crate) fn entry_of(word: &[u8]) -> Binding {
     if u8_at(word, 0) == Binding::GROUP {
         return Binding::group(src_endpoint, cluster_id, GroupAddress(u16_at(word, 4)));
     }
-    let dst_ieee = IeeeAddress(words::u64_at(word, 4));
+    let dst_ieee = IeeeAddress(words::number_at(word, 4, 8));
     Binding::device(src_endpoint, cluster_id, dst_ieee, u8_at(word, 12))
 }
 
 // Puts an entry. One that is not as `group` or `device` build them, in its mode or in a field that is zero there, is `?`.
-pub(crate) fn put_entry(entry: Binding, text: Text) -> io::Result<Text> {
-    let mode = entry.dst_addr_mode;
-    match mode {
+pub(crate) fn put_entry(entry: Binding, text: &mut Text) -> io::Result<()> {
+    match entry.dst_addr_mode {
         Binding::GROUP => put_group(entry, text),
         Binding::DEVICE => put_device(entry, text),
-        _ => out::byte(text, b'?'),
+        _ => text.unknown(),
     }
 }
 
 // Puts an entry to a group, or `?` where it has a device too.
-fn put_group(entry: Binding, text: Text) -> io::Result<Text> {
+fn put_group(entry: Binding, text: &mut Text) -> io::Result<()> {
     if entry.dst_ieee.0 != 0 || entry.dst_endpoint != 0 {
-        return out::byte(text, b'?');
+        return text.unknown();
     }
-    let text = put_source(entry, text)?;
-    out::hex_u16(text, entry.dst_group.0)
+    put_source(entry, text)?;
+    write!(text, "{:04X}", entry.dst_group.0)
 }
 
 // Puts an entry to a device, or `?` where it has a group too.
-fn put_device(entry: Binding, text: Text) -> io::Result<Text> {
+fn put_device(entry: Binding, text: &mut Text) -> io::Result<()> {
     if entry.dst_group.0 != 0 {
-        return out::byte(text, b'?');
+        return text.unknown();
     }
-    let text = put_source(entry, text)?;
-    let text = out::hex_u64(text, entry.dst_ieee.0)?;
-    out::hex_u8(text, entry.dst_endpoint)
+    put_source(entry, text)?;
+    write!(text, "{:016X}{:02X}", entry.dst_ieee.0, entry.dst_endpoint)
 }
 
 // Puts the fields that stand before an entry's destination.
-fn put_source(entry: Binding, text: Text) -> io::Result<Text> {
-    let text = out::hex_u8(text, entry.dst_addr_mode)?;
-    let text = out::hex_u8(text, entry.src_endpoint)?;
-    out::hex_u16(text, entry.cluster_id)
+fn put_source(entry: Binding, text: &mut Text) -> io::Result<()> {
+    write!(
+        text,
+        "{:02X}{:02X}{:04X}",
+        entry.dst_addr_mode, entry.src_endpoint, entry.cluster_id
+    )
 }

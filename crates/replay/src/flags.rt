@@ -1,77 +1,88 @@
 // The questions about the fields of flags in the node descriptor (oracle/README.md, "Descriptors").
 use crate::out::Text;
-use crate::{out, power, words};
+use crate::{power, words};
 use node_flags::{
     DescriptorCapabilities, DescriptorCapabilityFlag, FrequencyBandFlag, FrequencyBands,
     MacCapabilities, MacCapabilityFlag, ServerMask, ServerMaskFlag,
 };
 use std::io;
+use std::io::Write;
 
 // Puts the answer to a question about flags, or hands the line on.
-pub(crate) fn answer(line: &[u8], text: Text) -> io::Result<Text> {
+pub(crate) fn answer(line: &[u8], text: &mut Text) -> io::Result<()> {
     let questions = b"FrequencyBands::is_set 1;\
         MacCapabilities::is_set 1;\
         ServerMask::is_set 2;\
         DescriptorCapabilities::is_set 1;\
         ServerMask::get_stack_compliance_revision 2";
     match words::which(line, questions) {
-        0 => put_bands(FrequencyBands(words::u8_in(line, 1)), text),
-        1 => put_mac(MacCapabilities(words::u8_in(line, 1)), text),
-        2 => put_mask(ServerMask(words::u16_in(line, 1)), text),
-        3 => put_capabilities(DescriptorCapabilities(words::u8_in(line, 1)), text),
-        4 => put_revision(ServerMask(words::u16_in(line, 1)), text),
+        Some(0) => put_bands(FrequencyBands(words::u8_in(line, 1)), text),
+        Some(1) => put_mac(MacCapabilities(words::u8_in(line, 1)), text),
+        Some(2) => put_mask(ServerMask(words::u16_in(line, 1)), text),
+        Some(3) => put_capabilities(DescriptorCapabilities(words::u8_in(line, 1)), text),
+        Some(4) => put_revision(ServerMask(words::u16_in(line, 1)), text),
         _ => power::answer(line, text),
     }
 }
 
+// Puts which of some flags are set, in their order.
+fn put_set<F: Copy, S: Fn(F) -> bool>(flags: &[F], is_set: S, text: &mut Text) -> io::Result<()>
+    requires { S.IsAlwaysCallable is_set }
+{
+    for flag in flags {
+        text.flag(is_set(*flag))?;
+    }
+    Ok(())
+}
+
 // Puts which flags are set in the frequency bands, in their order.
-fn put_bands(field: FrequencyBands, text: Text) -> io::Result<Text> {
-    let set = [
-        field.is_set(FrequencyBandFlag::Low),
-        field.is_set(FrequencyBandFlag::Mid),
-        field.is_set(FrequencyBandFlag::High),
-        field.is_set(FrequencyBandFlag::EuropeanFSK),
+fn put_bands(field: FrequencyBands, text: &mut Text) -> io::Result<()> {
+    let flags = [
+        FrequencyBandFlag::Low,
+        FrequencyBandFlag::Mid,
+        FrequencyBandFlag::High,
+        FrequencyBandFlag::EuropeanFSK,
     ];
-    out::flags(text, &set)
+    put_set(&flags, |flag| field.is_set(flag), text)
 }
 
 // Puts which flags are set in the MAC capabilities, in their order.
-fn put_mac(field: MacCapabilities, text: Text) -> io::Result<Text> {
-    let set = [
-        field.is_set(MacCapabilityFlag::AlternatePanCoordinator),
-        field.is_set(MacCapabilityFlag::DeviceType),
-        field.is_set(MacCapabilityFlag::PowerSource),
-        field.is_set(MacCapabilityFlag::ReceiverOnWhenIdle),
-        field.is_set(MacCapabilityFlag::SecurityCapability),
-        field.is_set(MacCapabilityFlag::AllocateAddress),
+fn put_mac(field: MacCapabilities, text: &mut Text) -> io::Result<()> {
+    let flags = [
+        MacCapabilityFlag::AlternatePanCoordinator,
+        MacCapabilityFlag::DeviceType,
+        MacCapabilityFlag::PowerSource,
+        MacCapabilityFlag::ReceiverOnWhenIdle,
+        MacCapabilityFlag::SecurityCapability,
+        MacCapabilityFlag::AllocateAddress,
     ];
-    out::flags(text, &set)
+    put_set(&flags, |flag| field.is_set(flag), text)
 }
 
 // Puts which flags are set in a server mask, in their order.
-fn put_mask(field: ServerMask, text: Text) -> io::Result<Text> {
-    let set = [
-        field.is_set(ServerMaskFlag::PrimaryTrustCenter),
-        field.is_set(ServerMaskFlag::BackupTrustCenter),
-        field.is_set(ServerMaskFlag::PrimaryBindingTableCache),
-        field.is_set(ServerMaskFlag::BackupBindingTableCache),
-        field.is_set(ServerMaskFlag::PrimaryDiscoveryCache),
-        field.is_set(ServerMaskFlag::BackupDiscoveryCache),
-        field.is_set(ServerMaskFlag::NetworkManager),
+fn put_mask(field: ServerMask, text: &mut Text) -> io::Result<()> {
+    let flags = [
+        ServerMaskFlag::PrimaryTrustCenter,
+        ServerMaskFlag::BackupTrustCenter,
+        ServerMaskFlag::PrimaryBindingTableCache,
+        ServerMaskFlag::BackupBindingTableCache,
+        ServerMaskFlag::PrimaryDiscoveryCache,
+        ServerMaskFlag::BackupDiscoveryCache,
+        ServerMaskFlag::NetworkManager,
     ];
-    out::flags(text, &set)
+    put_set(&flags, |flag| field.is_set(flag), text)
 }
 
 // Puts which flags are set in the descriptor capabilities, in their order.
-fn put_capabilities(field: DescriptorCapabilities, text: Text) -> io::Result<Text> {
-    let set = [
-        field.is_set(DescriptorCapabilityFlag::ExtendedActiveEndpontListAvailable),
-        field.is_set(DescriptorCapabilityFlag::ExtendedSimpleDescriptorListAvailable),
+fn put_capabilities(field: DescriptorCapabilities, text: &mut Text) -> io::Result<()> {
+    let flags = [
+        DescriptorCapabilityFlag::ExtendedActiveEndpontListAvailable,
+        DescriptorCapabilityFlag::ExtendedSimpleDescriptorListAvailable,
     ];
-    out::flags(text, &set)
+    put_set(&flags, |flag| field.is_set(flag), text)
 }
 
 // Puts the revision of the stack in a server mask.
-fn put_revision(field: ServerMask, text: Text) -> io::Result<Text> {
-    out::hex_u8(text, field.get_stack_compliance_revision())
+fn put_revision(field: ServerMask, text: &mut Text) -> io::Result<()> {
+    write!(text, "{:02X}", field.get_stack_compliance_revision())
 }

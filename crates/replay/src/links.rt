@@ -4,33 +4,31 @@
 ghost use Rattle.std.specs.Prelude.{◌≤◌};
 
 use crate::out::Text;
-use crate::{bindings, out, words};
+use crate::{bindings, words};
 use aps_binding_table::binding::{
-    BindingTable, LinkStatus, Linked, create_binding_link, remove_binding_link,
+    BindingError, BindingTable, Linked, create_binding_link, remove_binding_link,
 };
 use std::io;
+use std::io::Write;
 use zdo_replies::descriptor::BindStatus;
 
-// Puts the answer to the question about a sequence. It stays as it is where the line is none.
-pub(crate) fn answer(line: &[u8], text: Text) -> io::Result<Text> {
+// Puts the answer to the question about a sequence.
+pub(crate) fn answer(line: &[u8], text: &mut Text) -> io::Result<()> {
     let limit = words::decimal_in(line, 1);
     if !has_limit(line) || limit > 32 {
-        return Ok(text);
+        return text.unknown();
     }
     let table = first_table(line, limit);
-    let passed = 1 + table.count;
-    if !has_steps(line, passed) {
-        return Ok(text);
+    let passed = table.count + 2;
+    if !line.split(words::is_space).skip(passed).all(is_step) {
+        return text.unknown();
     }
     run(line, passed, table, text)
 }
 
 // Whether a line has the question's name, and a number in decimal behind it.
 fn has_limit(line: &[u8]) -> bool {
-    if !words::is_named(line, b"links") {
-        return false;
-    }
-    words::is_decimal(words::word_of(line, 1))
+    words::is_named(line, b"links") && words::is_decimal(words::word_of(line, 1))
 }
 
 // The table to begin with: the entries that the words behind the limit say to be held, each in the next place, up to a word that
@@ -41,67 +39,42 @@ fn first_table(line: &[u8], limit: usize) -> BindingTable
 {
     let mut table = BindingTable::new(limit);
     let mut count: usize = 0;
-    while count < limit {
-        let word = words::word_of(line, count + 2);
+    for i in 0..limit {
+        let word = words::word_of(line, i + 2);
         if !has_entry(word, b'h') {
             break;
         }
-        table.entries[count] = bindings::entry_of(behind(word));
-        count += 1;
+        table.entries[i] = bindings::entry_of(behind(word));
+        count = i + 1;
     }
     table.count = count;
     table
 }
 
-// Whether all words of a line, but for the first so many behind its name, are steps.
-fn has_steps(line: &[u8], passed: usize) -> bool {
-    let last = words::arguments(line);
-    let mut i = passed;
-    while i < last {
-        i += 1;
-        let word = words::word_of(line, i);
-        if !has_entry(word, b'b') && !has_entry(word, b'u') {
-            return false;
-        }
-    }
-    true
+// Whether a word is a step.
+fn is_step(word: &[u8]) -> bool {
+    has_entry(word, b'b') || has_entry(word, b'u')
 }
 
 // Whether a word is this letter and an entry.
 fn has_entry(word: &[u8], letter: u8) -> bool {
-    if word.len() == 0 {
-        return false;
-    }
-    if word[0] != letter {
-        return false;
-    }
-    words::is_entry(behind(word))
+    word.first() == Some(&letter) && words::is_entry(behind(word))
 }
 
 // What stands behind the first character of a word.
 fn behind(word: &[u8]) -> &[u8] {
-    if word.len() == 0 {
-        return word;
-    }
-    &word[1..]
+    word.get(1..).unwrap_or(word)
 }
 
 // Takes the steps behind the first so many words, and puts the status of each, or `-` where there is none, and the table then.
-fn run(line: &[u8], passed: usize, table: BindingTable, text: Text) -> io::Result<Text> {
-    let last = words::arguments(line);
-    if last <= passed {
-        let text = out::byte(text, b'-')?;
-        return put_table(table, text);
+fn run(line: &[u8], passed: usize, mut table: BindingTable, text: &mut Text) -> io::Result<()> {
+    if words::arguments(line) < passed {
+        write!(text, "-")?;
     }
-    let mut table = table;
-    let mut text = text;
-    let mut i = passed;
-    while i < last {
-        i += 1;
-        let linked = step(table, words::word_of(line, i));
-        let status = linked.status;
+    for word in line.split(words::is_space).skip(passed) {
+        let linked = step(table, word);
         table = linked.table;
-        text = put_status(status, text)?;
+        put_status(linked.status, text)?;
     }
     put_table(table, text)
 }
@@ -116,27 +89,22 @@ fn step(table: BindingTable, word: &[u8]) -> Linked {
 }
 
 // Puts a status. The oracle never answers `R`: a refusal, which no table of this question earns, would show.
-fn put_status(status: LinkStatus, text: Text) -> io::Result<Text> {
-    match status {
-        LinkStatus::Success => out::hex_u8(text, BindStatus::Success.code()),
-        LinkStatus::InvalidBinding => out::hex_u8(text, BindStatus::NoEntry.code()),
-        LinkStatus::TableFull => out::hex_u8(text, BindStatus::TableFull.code()),
-        LinkStatus::Refused(_) => out::byte(text, b'R'),
-    }
+fn put_status(status: Result<(), BindingError>, text: &mut Text) -> io::Result<()> {
+    let status = match status {
+        Ok(()) => BindStatus::Success,
+        Err(BindingError::InvalidBinding) => BindStatus::NoEntry,
+        Err(BindingError::TableFull) => BindStatus::TableFull,
+        Err(BindingError::Refused(_)) => return text.refused(),
+    };
+    write!(text, "{:02X}", status.code())
 }
 
 // Puts a table, after a space: how many entries it holds, and each of them.
-fn put_table(table: BindingTable, text: Text) -> io::Result<Text> {
-    let mut text = out::byte(text, b' ')?;
-    text = out::decimal(text, table.count)?;
-    let mut i: usize = 0;
-    while i < 32 {
-        if table.count <= i {
-            return Ok(text);
-        }
-        text = out::byte(text, b' ')?;
-        text = bindings::put_entry(table.entries[i], text)?;
-        i += 1;
+fn put_table(table: BindingTable, text: &mut Text) -> io::Result<()> {
+    write!(text, " {}", table.count)?;
+    for entry in table.entries.iter().take(table.count) {
+        write!(text, " ")?;
+        bindings::put_entry(*entry, text)?;
     }
-    Ok(text)
+    Ok(())
 }

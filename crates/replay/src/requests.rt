@@ -1,27 +1,18 @@
 // The questions about requests (oracle/README.md, "Requests").
-use crate::out::Text;
-use crate::{bindings, out, replies, words};
+use crate::out::{Text, put_read};
+use crate::{bindings, replies, words};
 use byte::Field;
 use std::io;
+use std::io::Write;
 use zdo_bind_req::descriptor::parse_bind_req;
 use zdo_leave_req::descriptor::parse_mgmt_leave_req;
 use zdo_match_req::descriptor::parse_match_desc_req;
 use zdo_requests::descriptor;
+use zdo_requests::descriptor::{BindReq, IeeeAddrReq, MatchDescReq, MgmtLeaveReq, NwkAddrReq};
 use zigbee_types::{Places, ShortAddress};
 
-// A request that is parsed.
-#[derive(Clone, Copy)]
-enum Request {
-    NwkAddr,
-    IeeeAddr,
-    AddrOfInterest,
-    MatchDesc,
-    Bind,
-    MgmtLeave,
-}
-
 // Puts the answer to a question about requests, or hands the line on.
-pub(crate) fn answer(line: &[u8], text: Text) -> io::Result<Text> {
+pub(crate) fn answer(line: &[u8], text: &mut Text) -> io::Result<()> {
     let questions = b"parse_nwk_addr_req b;\
         parse_ieee_addr_req b;\
         parse_addr_of_interest b;\
@@ -31,174 +22,122 @@ pub(crate) fn answer(line: &[u8], text: Text) -> io::Result<Text> {
         node_desc_req 1 2 b;\
         constants";
     match words::which(line, questions) {
-        0 => parse(line, Request::NwkAddr, text),
-        1 => parse(line, Request::IeeeAddr, text),
-        2 => parse(line, Request::AddrOfInterest, text),
-        3 => parse(line, Request::MatchDesc, text),
-        4 => parse(line, Request::Bind, text),
-        5 => parse(line, Request::MgmtLeave, text),
-        6 => node_desc(line, text),
-        7 => constants(text),
+        Some(0) => put_read(line, descriptor::parse_nwk_addr_req, put_nwk_addr, text),
+        Some(1) => put_read(line, descriptor::parse_ieee_addr_req, put_ieee_addr, text),
+        Some(2) => put_read(line, descriptor::parse_addr_of_interest, put_address, text),
+        Some(3) => match_desc(line, text),
+        Some(4) => put_read(line, parse_bind_req, put_bind, text),
+        Some(5) => put_read(line, parse_mgmt_leave_req, put_leave, text),
+        Some(6) => node_desc(line, text),
+        Some(7) => constants(text),
         _ => replies::answer(line, text),
     }
 }
 
-// Puts the request that is parsed: behind the question's name stand BYTES.
-fn parse(line: &[u8], request: Request, text: Text) -> io::Result<Text> {
+// Puts a request for a short address.
+fn put_nwk_addr(request: NwkAddrReq, text: &mut Text) -> io::Result<()> {
+    let address = request.ieee_addr.0;
+    write!(
+        text,
+        "{:02X} {address:016X} {:02X}",
+        request.seq, request.request_type
+    )
+}
+
+// Puts a request for an IEEE address.
+fn put_ieee_addr(request: IeeeAddrReq, text: &mut Text) -> io::Result<()> {
+    let address = request.nwk_addr_of_interest.0;
+    write!(
+        text,
+        "{:02X} {address:04X} {:02X}",
+        request.seq, request.request_type
+    )
+}
+
+// Puts the address that a request is about.
+fn put_address(address: ShortAddress, text: &mut Text) -> io::Result<()> {
+    write!(text, "{:04X}", address.0)
+}
+
+// Puts a match request, or `R`: behind the question's name stand BYTES.
+fn match_desc(line: &[u8], text: &mut Text) -> io::Result<()> {
     let mut space = [0u8; words::BYTES];
-    let count = words::bytes_in(line, 1, &mut space);
-    let bytes = &space[0..count];
-    match request {
-        Request::NwkAddr => nwk_addr(bytes, text),
-        Request::IeeeAddr => ieee_addr(bytes, text),
-        Request::AddrOfInterest => addr_of_interest(bytes, text),
-        Request::MatchDesc => match_desc(bytes, text),
-        Request::Bind => bind(bytes, text),
-        Request::MgmtLeave => mgmt_leave(bytes, text),
-    }
-}
-
-// Puts a request for a short address, or `R`.
-fn nwk_addr(bytes: &[u8], text: Text) -> io::Result<Text> {
-    match descriptor::parse_nwk_addr_req(bytes) {
-        Ok(request) => {
-            let text = out::hex_u8(text, request.seq)?;
-            let text = out::byte(text, b' ')?;
-            let text = out::hex_u64(text, request.ieee_addr.0)?;
-            let text = out::byte(text, b' ')?;
-            out::hex_u8(text, request.request_type)
-        }
-        Err(_) => out::byte(text, b'R'),
-    }
-}
-
-// Puts a request for an IEEE address, or `R`.
-fn ieee_addr(bytes: &[u8], text: Text) -> io::Result<Text> {
-    match descriptor::parse_ieee_addr_req(bytes) {
-        Ok(request) => {
-            let text = out::hex_u8(text, request.seq)?;
-            let text = put_u16(request.nwk_addr_of_interest.0, text)?;
-            let text = out::byte(text, b' ')?;
-            out::hex_u8(text, request.request_type)
-        }
-        Err(_) => out::byte(text, b'R'),
-    }
-}
-
-// Puts the address that a request is about, or `R`.
-fn addr_of_interest(bytes: &[u8], text: Text) -> io::Result<Text> {
-    match descriptor::parse_addr_of_interest(bytes) {
-        Ok(address) => out::hex_u16(text, address.0),
-        Err(_) => out::byte(text, b'R'),
-    }
-}
-
-// Puts a match request, or `R`.
-fn match_desc(bytes: &[u8], text: Text) -> io::Result<Text> {
+    let bytes = words::bytes_in(line, 1, &mut space);
     match parse_match_desc_req(bytes) {
-        Ok(request) => {
-            let inputs = request.input_clusters;
-            let outputs = request.output_clusters;
-            let text = out::hex_u8(text, request.seq)?;
-            let text = put_u16(request.nwk_addr_of_interest.0, text)?;
-            let text = put_u16(request.profile_id, text)?;
-            let text = put_places(inputs, text)?;
-            let text = put_places(outputs, text)?;
-            let text = put_list(bytes, inputs, text)?;
-            put_list(bytes, outputs, text)
-        }
-        Err(_) => out::byte(text, b'R'),
+        Ok(request) => put_match_desc(request, bytes, text),
+        Err(_) => text.refused(),
     }
 }
 
-// Puts a number of two bytes after a space.
-pub(crate) fn put_u16(number: u16, text: Text) -> io::Result<Text> {
-    let text = out::byte(text, b' ')?;
-    out::hex_u16(text, number)
+// Puts a match request, and its clusters, which stand in a payload.
+fn put_match_desc(request: MatchDescReq, bytes: &[u8], text: &mut Text) -> io::Result<()> {
+    let address = request.nwk_addr_of_interest.0;
+    write!(
+        text,
+        "{:02X} {address:04X} {:04X}",
+        request.seq, request.profile_id
+    )?;
+    put_places(request.input_clusters, text)?;
+    put_places(request.output_clusters, text)?;
+    put_list(bytes, request.input_clusters, text)?;
+    put_list(bytes, request.output_clusters, text)
 }
 
 // Puts where a list stands, and how many entries it has, each after a space.
-pub(crate) fn put_places(list: Places, text: Text) -> io::Result<Text> {
-    let text = out::byte(text, b' ')?;
-    let text = out::decimal(text, list.start)?;
-    let text = out::byte(text, b' ')?;
-    out::decimal(text, list.count)
+pub(crate) fn put_places(list: Places, text: &mut Text) -> io::Result<()> {
+    write!(text, " {} {}", list.start, list.count)
 }
 
 // Puts the clusters of a list in a payload after a space: `-` where there are none, and `?` for one past the end.
-fn put_list(bytes: &[u8], list: Places, text: Text) -> io::Result<Text> {
-    let mut text = out::byte(text, b' ')?;
+fn put_list(bytes: &[u8], list: Places, text: &mut Text) -> io::Result<()> {
     if list.count == 0 {
-        return out::byte(text, b'-');
+        return text.none();
     }
+    write!(text, " ")?;
     let mut place = list.start;
-    let mut i: usize = 0;
-    while i < list.count {
-        if bytes.len() <= place {
-            return out::byte(text, b'?');
-        }
-        if bytes.len() - place < 2 {
-            return out::byte(text, b'?');
+    for _ in 0..list.count {
+        if bytes.len() < 2 || bytes.len() - 2 < place {
+            return text.unknown();
         }
         let cluster = u16::read(bytes, place);
-        text = out::hex_u16(text, cluster.value)?;
+        write!(text, "{:04X}", cluster.value)?;
         place = cluster.next;
-        i += 1;
     }
-    Ok(text)
+    Ok(())
 }
 
-// Puts a request to bind or unbind, or `R`.
-fn bind(bytes: &[u8], text: Text) -> io::Result<Text> {
-    match parse_bind_req(bytes) {
-        Ok(request) => {
-            let text = out::hex_u8(text, request.seq)?;
-            let text = out::byte(text, b' ')?;
-            let text = out::hex_u64(text, request.src_address.0)?;
-            let text = out::byte(text, b' ')?;
-            bindings::put_entry(request.binding(), text)
-        }
-        Err(_) => out::byte(text, b'R'),
-    }
+// Puts a request to bind or unbind.
+fn put_bind(request: BindReq, text: &mut Text) -> io::Result<()> {
+    write!(text, "{:02X} {:016X} ", request.seq, request.src_address.0)?;
+    bindings::put_entry(request.binding(), text)
 }
 
-// Puts a leave request, or `R`.
-fn mgmt_leave(bytes: &[u8], text: Text) -> io::Result<Text> {
-    match parse_mgmt_leave_req(bytes) {
-        Ok(request) => {
-            let device_address = request.device_address;
-            let text = out::hex_u8(text, request.seq)?;
-            let text = out::byte(text, b' ')?;
-            let text = put_address(device_address, text)?;
-            let text = out::byte(text, b' ')?;
-            let text = out::flag(text, request.remove_children)?;
-            let text = out::byte(text, b' ')?;
-            out::flag(text, request.rejoin)
-        }
-        Err(_) => out::byte(text, b'R'),
+// Puts a leave request, with `-` for no address.
+fn put_leave(request: MgmtLeaveReq, text: &mut Text) -> io::Result<()> {
+    write!(text, "{:02X}", request.seq)?;
+    match request.device_address {
+        Some(address) => write!(text, " {:016X}", address.0)?,
+        None => text.none()?,
     }
-}
-
-// Puts an IEEE address, or `-` for none.
-fn put_address(address: Option<IeeeAddress>, text: Text) -> io::Result<Text> {
-    match address {
-        Some(address) => out::hex_u64(text, address.0),
-        None => out::byte(text, b'-'),
-    }
+    write!(
+        text,
+        " {} {}",
+        u8::from(request.remove_children),
+        u8::from(request.rejoin)
+    )
 }
 
 // Puts the answer to a write: behind its name stand NUMBER SHORT BUFFER.
-fn node_desc(line: &[u8], text: Text) -> io::Result<Text> {
+fn node_desc(line: &[u8], text: &mut Text) -> io::Result<()> {
     let address = ShortAddress(words::u16_in(line, 2));
     let mut space = [0u8; words::BYTES];
-    let count = words::bytes_in(line, 3, &mut space);
-    let buffer = &mut space[0..count];
+    let buffer = words::bytes_in(line, 3, &mut space);
     let answer = descriptor::node_desc_req(words::u8_in(line, 1), address, buffer);
-    out::written(text, answer, words::word_of(line, 3), buffer)
+    text.written(answer, words::word_of(line, 3), buffer)
 }
 
 // Puts the clusters of the requests and of the replies, and the types of an address request.
-fn constants(text: Text) -> io::Result<Text> {
+fn constants(text: &mut Text) -> io::Result<()> {
     let clusters = [
         descriptor::NWK_ADDR_REQ,
         descriptor::IEEE_ADDR_REQ,
@@ -221,14 +160,13 @@ fn constants(text: Text) -> io::Result<Text> {
         descriptor::UNBIND_RSP,
         descriptor::MGMT_LEAVE_RSP,
     ];
-    let mut text = text;
-    let mut i: usize = 0;
-    while i < 20 {
-        text = out::hex_u16(text, clusters[i])?;
-        text = out::byte(text, b' ')?;
-        i += 1;
+    for cluster in clusters {
+        write!(text, "{cluster:04X} ")?;
     }
-    text = out::hex_u8(text, descriptor::ADDR_REQUEST_SINGLE)?;
-    text = out::byte(text, b' ')?;
-    out::hex_u8(text, descriptor::ADDR_REQUEST_EXTENDED)
+    write!(
+        text,
+        "{:02X} {:02X}",
+        descriptor::ADDR_REQUEST_SINGLE,
+        descriptor::ADDR_REQUEST_EXTENDED
+    )
 }

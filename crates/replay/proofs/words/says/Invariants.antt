@@ -1,6 +1,0 @@
--- `says` is safe and ends: it goes through the bytes from the front. Assumes nothing.
-use Rattle.std.proofs.Common.{length, ◌-◌}
-use Rattle.replay.proofs.words.says.Given as goal
-
-abbrev pub decreases-loop-i : goal.decreases-loop-i
-decreases-loop-i l = length l.bytes - l.i
