@@ -89,7 +89,7 @@ fn write_text(text: &[u8], out: &mut [u8]) -> Result<usize, Refusal>
 fn write_refusal(why: Refusal, out: &mut [u8]) -> Result<usize, Refusal>
     ensures { Wrote (answer (refusal_text (refusal_number why))) out.old (says result) out.new }
 {
-    write_text(&[b'R', b'0' + why.number()], out)
+    write_text(&[b'R', b'0' + u8::from(why)], out)
 }
 
 // Writes what a request came to; of a reply, its bytes stand at the front of a buffer.

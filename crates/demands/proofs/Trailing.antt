@@ -170,7 +170,7 @@ power_more = then_more _ _ (parsed_more power_widths _) (λ reply rest a b came 
 
 list_whole : (reply : List ℕ) (r : ListReply) → list_reply_in reply ≡ answer r → behind 1 r.list ≤ length reply
 unfolding says
-list_whole reply r e = list_long reply r (Ok r) (sym e) refl
+list_whole reply r e = list_long reply r (sym e)
 
 list_more : IgnoresTrailing list_reply_in
 unfolding list_reply_in list_behind
@@ -216,7 +216,7 @@ simple_stands :
     → simple_fields reply (shifted_fields start d) ≡ simple_fields (part start len reply) d
 unfolding says simple_fields shifted_fields
 simple_stands reply start len d e =
-    let (first, second) = lists_end (part start len reply) (Ok d) (sym e) refl in
+    let (first, second) = lists_end (part start len reply) d (sym e) in
     rw (entries_within start len reply 2 d.input_clusters first, entries_within start len reply 2 d.output_clusters second)
 
 -- ---- all of them
