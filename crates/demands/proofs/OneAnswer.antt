@@ -4,6 +4,7 @@ use Prim.Native.Nat.{ℕ}
 use mathlib.Core.Path.{◌≡◌, refl, sym, ◌∙◌}
 use mathlib.Core.Bool.{cond}
 use lib.Dec.{eqb}
+use Rattle.zigbee_types.specs.Outcome.{mapped}
 use Rattle.zigbee_types.specs.Statuses.{SUCCESS, NO_ENTRY}
 use Rattle.zigbee_types.specs.Answers.{says}
 use Rattle.zigbee_types.proofs.OneOutcome.{determined, refused_back, one_wrote, one_begun}
@@ -38,7 +39,7 @@ one_link =
     ])
 
 one_matching : Determines matching_says
-unfolding matching_says
+unfolding matching_says mapped says
 one_matching =
     determined _ (λ n. Ok (record { written = n })) Err
     (elim [ Ok m ↦ refl | Err why ↦ refused_back Err why ])

@@ -21,6 +21,7 @@ use Rattle.zdo_readers.specs.Readers.{header_widths, header_in, descriptor_reply
 use Rattle.zdo_readers.specs.declared.readers.ReplyHeader.{ReplyHeader}
 use Rattle.zdo_readers.specs.declared.readers.NodeReply.{NodeReply}
 use Rattle.demands.specs.TwoReaders.{mask_of, revision_of, rsp_of, in_brief, NodeReadersAgree, RevisionsAgree}
+use Rattle.node_descriptor.specs.declared.NodeDescriptor.{NodeDescriptor}
 
 module _ (reply : List ℕ) where
   -- field 6 of a descriptor behind the header is what stands at byte 12

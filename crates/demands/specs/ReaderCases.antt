@@ -34,6 +34,10 @@ use Rattle.zdo_list_readers.specs.declared.readers.MatchReply.{MatchReply}
 use Rattle.zdo_list_readers.specs.declared.readers.MatchReply.TheVariants.{Matched, Failed}
 use Rattle.zdo_dispatcher.specs.Answers.{leaving}
 use Rattle.demands.specs.Cases.{Case, type_shown, power_shown, node_of, mode_shown, source_shown, level_shown}
+use Rattle.node_descriptor.specs.declared.NodeDescriptor.{NodeDescriptor}
+use Rattle.node_power_descriptor.specs.declared.NodePowerDescriptor.{NodePowerDescriptor}
+use Rattle.simple_descriptor.specs.declared.SimpleDescriptorFields.{SimpleDescriptorFields}
+use Rattle.zdo_readers.specs.declared.readers.Associated.{Associated}
 
 -- K1's node reply
 abbrev pub node_reply : List ℕ

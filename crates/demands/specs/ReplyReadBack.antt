@@ -31,6 +31,10 @@ use Rattle.zdo_list_readers.specs.declared.readers.MatchReply.TheVariants as mat
 use Rattle.zdo_list_readers.specs.declared.readers.SimpleReply.{SimpleReply}
 use Rattle.demands.specs.ReadBack.{cut_node, cut_power, cut_endpoint}
 use Rattle.demands.specs.TwoReaders.{rsp_of}
+use Rattle.node_descriptor.specs.declared.NodeDescriptor.{NodeDescriptor}
+use Rattle.node_power_descriptor.specs.declared.NodePowerDescriptor.{NodePowerDescriptor}
+use Rattle.simple_descriptor.specs.declared.SimpleDescriptorFields.{SimpleDescriptorFields}
+use Rattle.zdo_readers.specs.declared.readers.Associated.{Associated}
 
 -- what was written by a writer that comes to o is read as r: as many bytes of the buffer as the writer told, with any bytes behind
 -- them

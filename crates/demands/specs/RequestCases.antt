@@ -12,6 +12,7 @@ use Rattle.zdo_requests.specs.declared.descriptor.BindReqDestination.{BindReqDes
 use Rattle.zdo_requests.specs.declared.descriptor.BindReqDestination.TheVariants.{Group, Device}
 use Rattle.zdo_requests.specs.declared.descriptor.MgmtLeaveReq.{MgmtLeaveReq}
 use Rattle.demands.specs.Cases.{Case, bind_a}
+use Rattle.zigbee_types.specs.declared.IeeeAddress.{IeeeAddress}
 
 -- what a parser reads of the first bytes of a payload, for each of these numbers of bytes
 abbrev pub fronts : (List ℕ → Outcome (List ℕ)) → List ℕ → List ℕ → List (Outcome (List ℕ))

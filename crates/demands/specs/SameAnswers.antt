@@ -13,6 +13,7 @@ use Rattle.zdo_device.specs.declared.descriptor.DeviceDescriptorConfig.{DeviceDe
 use Rattle.zdo_matching.specs.Matching.{matched_records, matching_endpoints}
 use Rattle.zdo_matching.specs.Answers.{matching_says}
 use Rattle.zdo_device_rsp.specs.TableReplies.{active_records, active_ep_rsp}
+use Rattle.zdo_matching.specs.declared.descriptor.Matched.{Matched}
 
 -- a device holds a run: its count says how many records that has, and those in use are the run, or its first 32
 pub record Holds (d : DeviceDescriptorConfig) (run : List EndpointDescriptor) : Type 0 where

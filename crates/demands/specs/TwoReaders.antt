@@ -8,6 +8,7 @@ use Rattle.zdo_readers.specs.Readers.{node_reply_in, node_desc_rsp_in, stack_rev
 use Rattle.zdo_readers.specs.declared.descriptor.NodeDescRsp.{NodeDescRsp}
 use Rattle.zdo_readers.specs.declared.readers.ReplyHeader.{ReplyHeader}
 use Rattle.zdo_readers.specs.declared.readers.NodeReply.{NodeReply}
+use Rattle.node_descriptor.specs.declared.NodeDescriptor.{NodeDescriptor}
 
 -- the server mask of a descriptor, where there is one
 abbrev pub mask_of : Option NodeDescriptor → Option ℕ
