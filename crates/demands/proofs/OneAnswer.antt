@@ -1,7 +1,7 @@
 -- Each answer or refusal comes back from what it says. Assumes nothing.
 use Rattle.std.specs.Prelude.{Result, Ok, Err, ⊤}
 use Prim.Native.Nat.{ℕ}
-use mathlib.Core.Path.{◌≡◌, refl, sym, ◌∙◌}
+use mathlib.Core.Path.{refl, sym, ◌∙◌}
 use mathlib.Core.Bool.{cond}
 use lib.Dec.{eqb}
 use Rattle.zigbee_types.specs.Outcome.{mapped}

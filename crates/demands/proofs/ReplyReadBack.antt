@@ -47,8 +47,6 @@ use Rattle.demands.proofs.Frames.{one_layout}
 use Rattle.demands.proofs.TwoReaders.{node_readers_agree}
 use Rattle.demands.proofs.ReadBack.{node_back, power_back, version_cut, simple_front, simple_lists}
 use Rattle.node_descriptor.specs.declared.NodeDescriptor.{NodeDescriptor}
-use Rattle.node_power_descriptor.specs.declared.NodePowerDescriptor.{NodePowerDescriptor}
-use Rattle.zdo_readers.specs.declared.readers.Associated.{Associated}
 
 -- ---- what was sent
 

@@ -1,6 +1,5 @@
 -- What stands behind a reply is ignored, and lists that are read stand at their places in the whole reply. From what holds of fields
 -- that lie within bytes. Assumes nothing.
-use Rattle.std.specs.Prelude.{Ok}
 use Prim.Native.Nat.{ℕ, zero, suc, ◌+◌, ◌*◌, ◌≤◌}
 use native.Mathlib.Omega.{arith}
 use mathlib.Core.Path.{◌≡◌, refl, sym, ap}

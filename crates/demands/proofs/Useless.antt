@@ -25,7 +25,6 @@ use Rattle.zdo_matching.specs.Matching.{wanted, profile_matches, shared, matches
 use Rattle.zdo_discovery.specs.Host.{Host, Asked, asking, good_host, resolved}
 use Rattle.zdo_discovery.specs.Discovery.{about, on_node, on_match, discovery, discovered}
 use Rattle.zdo_dispatcher.specs.Answers.{Answer, reply, leave, Told, replied, leaving, step_of, source_status, link_step, link_answer, on_link, by_cluster, answered, table_after, buffer_after, told_of}
-use Rattle.our_device.specs.OurDevice.{ours}
 use Rattle.demands.specs.ReadersRefuse.{byte_of}
 use Rattle.demands.specs.Runs.{left, how_many}
 use Rattle.demands.specs.Calls.{Call, bind, unbind}

@@ -32,7 +32,6 @@ use Rattle.zdo_readers.specs.Readers.{node_reply_in, power_reply_in, node_desc_r
 use Rattle.zdo_list_readers.specs.ListReaders.{list_reply_in, match_reply_in, simple_reply_in}
 use Rattle.zdo_list_readers.specs.declared.readers.MatchReply.{MatchReply}
 use Rattle.zdo_list_readers.specs.declared.readers.MatchReply.TheVariants.{Matched, Failed}
-use Rattle.zdo_dispatcher.specs.Answers.{leaving}
 use Rattle.demands.specs.Cases.{Case, type_shown, power_shown, node_of, mode_shown, source_shown, level_shown}
 use Rattle.node_descriptor.specs.declared.NodeDescriptor.{NodeDescriptor}
 use Rattle.node_power_descriptor.specs.declared.NodePowerDescriptor.{NodePowerDescriptor}
