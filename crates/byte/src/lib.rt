@@ -3,7 +3,7 @@
 // (Named after the crate by which the Rust reads and writes its fields.)
 #![tactic(auto, using(zigbee_types::proofs::Fields::put_byte, crate::proofs::LittleEndian::bytes_read, crate::proofs::LittleEndian::bytes_put))]
 
-ghost use Rattle.std.specs.Prelude.{ℕ, ◌≡◌, ◌+◌, ◌*◌, ◌%◌, ◌≤◌, length};
+ghost use Rattle.std.specs.Prelude.{ℕ, ◌≡◌, ◌+◌, ◌%◌, ◌≤◌, length};
 ghost use Rattle.zigbee_types.specs.Bytes.{bit_at, FieldRead, FieldPut};
 
 // What was read, and the place behind it.

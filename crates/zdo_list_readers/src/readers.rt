@@ -1,6 +1,5 @@
 // Active, match and simple replies as they are read (added by design). Lists are places counted from the start of the reply.
 ghost use Rattle.std.specs.Prelude.{◌≡◌, ◌+◌, ◌^◌, ◌≤◌, ◌<◌, length};
-ghost use Rattle.zigbee_types.specs.Outcome.{mapped};
 ghost use Rattle.zigbee_types.specs.Layout.{behind};
 ghost use Rattle.zdo_list_readers.specs.ListReaders.{list_behind, list_reply_in, match_reply_in, shifted, shifted_fields, simple_within, simple_reply_in};
 ghost use Rattle.zigbee_types.specs.Answers.{says};

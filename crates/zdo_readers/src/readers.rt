@@ -1,9 +1,8 @@
 // Whole replies as they are read (added by design): what most of them begin with, node and power replies, address replies, and
 // those of bind, unbind and leave.
 ghost use Rattle.std.specs.Prelude.{◌≡◌};
-ghost use Rattle.zigbee_types.specs.Outcome.{mapped};
 ghost use Rattle.zigbee_types.specs.Answers.{says};
-ghost use Rattle.zdo_readers.specs.Readers.{header_in, goes_further, node_with, node_reply_in, power_with, power_reply_in, associated_in, addr_reply_in, status_reply_in};
+ghost use Rattle.zdo_readers.specs.Readers.{header_in, goes_further, node_reply_in, power_reply_in, associated_in, addr_reply_in, status_reply_in};
 
 use byte::Field;
 use node_descriptor::NodeDescriptor;
