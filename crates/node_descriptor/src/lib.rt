@@ -110,6 +110,8 @@ impl NodeDescriptor {
         })
     }
 
+    // ---- an accessor for each field, under the Rust's names: each says its own
+
     // Device type of the node (2.3.2.3.1).
     pub fn logical_type(self) -> LogicalType
         ensures { result ≡ (node_fields self).logical_type }

@@ -108,7 +108,8 @@ pub fn active_ep_rsp_error(
     empty_rsp(seq, error.code(), nwk_addr_of_interest, out)
 }
 
-// Builds a Simple_Desc_rsp reporting an error (2.4.4.2.5), which carries a zero descriptor length in place of the descriptor.
+// Builds a Simple_Desc_rsp reporting an error (2.4.4.2.5), which carries a zero descriptor length in place of the descriptor. (The Rust
+// has a name for each of the two; what they share is `empty_rsp`.)
 pub fn simple_desc_rsp_error(
     seq: u8,
     error: DiscoveryError,

@@ -7,7 +7,7 @@ use byte::Field;
 use zdo_requests::descriptor::MgmtLeaveReq;
 use zigbee_types::{IeeeAddress, Refusal};
 
-// Mgmt_Leave_req options (2.4.3.3.5).
+// Mgmt_Leave_req options (2.4.3.3.5), as masks under the Rust's names.
 const MGMT_LEAVE_REMOVE_CHILDREN: u8 = 0b0100_0000;
 
 const MGMT_LEAVE_REJOIN: u8 = 0b1000_0000;

@@ -22,7 +22,8 @@ pub struct ListReply {
 }
 
 impl ListReply {
-    // Reads an Active_EP_rsp (2.4.4.2.6): the header, ActiveEPCount, ActiveEPList. The list must be whole.
+    // Reads an Active_EP_rsp (2.4.4.2.6): the header, ActiveEPCount, ActiveEPList. The list must be whole. (In shape, this is the reader of
+    // a simple reply too: two lines, which name the two parts of each.)
     pub fn try_read(reply: &[u8]) -> Result<ListReply, Refusal>
         ensures { says result ≡ list_reply_in reply.now }
     {

@@ -9,7 +9,7 @@ use crate::management::NlmeLeaveStatus;
 use byte::Field;
 use zigbee_types::Refusal;
 
-// ZDP status codes (2.4.5).
+// ZDP status codes (2.4.5). (Numbers under the Rust's names: a reply that is read may have any other.)
 pub const STATUS_SUCCESS: u8 = 0x00;
 
 const STATUS_INV_REQUESTTYPE: u8 = 0x80;
@@ -43,7 +43,7 @@ pub enum BindStatus {
 }
 
 impl BindStatus {
-    // The status that reports it.
+    // The status that reports it. (`code` is the Rust's name, here and below.)
     pub fn code(self) -> u8
         ensures { result ≡ bind_code self }
     {

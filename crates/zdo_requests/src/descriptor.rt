@@ -8,7 +8,7 @@ use aps_binding::binding::Binding;
 use byte::Field;
 use zigbee_types::{GroupAddress, IeeeAddress, Places, Refusal, ShortAddress};
 
-// ZDP request cluster identifiers (2.4.3).
+// ZDP request cluster identifiers (2.4.3). (Numbers under the Rust's names, here and below: a request may have any other number.)
 pub const NWK_ADDR_REQ: u16 = 0x0000;
 
 pub const IEEE_ADDR_REQ: u16 = 0x0001;

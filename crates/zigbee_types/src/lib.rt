@@ -17,7 +17,8 @@ pub struct ShortAddress(pub u16);
 #[derive(Clone, Copy, PartialEq, Eq, Debug)]
 pub struct GroupAddress(pub u16);
 
-// Where a list stands in a payload: its first byte, and how many entries it has.
+// Where a list stands in a payload: its first byte, and how many entries it has. (Document 01's form, "places in the payload": the bytes
+// are the caller's.)
 #[derive(Clone, Copy)]
 pub struct Places {
     pub start: usize,
