@@ -1,8 +1,6 @@
 -- The simple descriptor (2.3.2.5): what one endpoint is, and its clusters (document 01, module 4).
-use Rattle.std.specs.Prelude.{ℕ, ◌+◌, ◌%◌, cond, List, [], ◌∷◌, ◌++◌, leb, length, Result, Ok, Err}
-use Rattle.zigbee_types.specs.declared.Refusal.{Refusal}
+use Rattle.std.specs.Prelude.{ℕ, ◌+◌, ◌%◌, cond, List, [], ◌∷◌, ◌++◌, leb, length}
 use Rattle.zigbee_types.specs.Outcome.{Outcome, answer, refusal, mapped}
-use Rattle.zigbee_types.specs.Refusals.{refusal_number}
 use Rattle.zigbee_types.specs.Layout.{Field, byte, word, laid, field_of, listed, entries_at, lists_in}
 use Rattle.zigbee_types.specs.declared.ClusterLists.{ClusterLists}
 use Rattle.simple_descriptor.specs.declared.SimpleDescriptorFields.{SimpleDescriptorFields}
