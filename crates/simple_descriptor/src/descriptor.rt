@@ -46,10 +46,8 @@ fn write_clusters(out: &mut [u8], at: usize, clusters: &[u16]) -> usize
     ensures { FieldsPut (listed 2 clusters.now) out.old at result out.new }
 {
     let mut at = u8::write(out, at, clusters.len() as u8);
-    let mut i: usize = 0;
-    while i < clusters.len() {
-        at = u16::write(out, at, clusters[i]);
-        i += 1;
+    for &cluster in clusters {
+        at = u16::write(out, at, cluster);
     }
     at
 }

@@ -1,11 +1,6 @@
--- `descriptor::write_clusters` meets its contract. The loop's invariant: the first i clusters were put behind the count. The
--- measure is how many are left. Assumes nothing.
-use Rattle.std.proofs.Common.{length, ◌-◌}
+-- `descriptor::write_clusters` meets its contract. The loop's invariant: the clusters so far were put behind the count. Assumes nothing.
 use Rattle.simple_descriptor.proofs.descriptor.write_clusters.Given as goal
 use Rattle.zigbee_types.proofs.Entries.{EntriesPut}
 
-abbrev pub invariant-loop-i : goal.invariant-loop-i
-invariant-loop-i l = EntriesPut 2 l.clusters l.i l.initial.out l.initial.at l.at l.out
-
-abbrev pub decreases-loop-i : goal.decreases-loop-i
-decreases-loop-i l = length l.clusters - l.i
+abbrev pub invariant-loop-cluster : goal.invariant-loop-cluster
+invariant-loop-cluster l = EntriesPut 2 l.clusters l.cluster-index l.initial.out l.initial.at l.at l.out
