@@ -66,10 +66,6 @@ pub sets_append : (s : List ℕ) (at : ℕ) (a b : List ℕ) → sets (sets s at
 sets_append s at [] b = rw add-zero
 sets_append s at (x ∷ a) b = rw (add-suc, ← suc-add) (sets_append (set s at x) (suc at) a b)
 
--- so stores behind k bytes of a number are stores of those bytes and of what is behind
-pub sets_behind : (s : List ℕ) (at k x : ℕ) (b : List ℕ) → sets (sets s at (le k x)) (at + k) b ≡ sets s at (le k x ++ b)
-sets_behind s at k x b = rw (le_counted k x) at (sets_append s at (le k x) b)
-
 -- what was put leaves the length as it was
 pub put_counted : {k x at n : ℕ} {s t : List ℕ} → FieldPut k x s at n t → length t ≡ length s
 put_counted {k} {x} {at} {n} {s} p = rw p.left (length-sets s at (le k x))
