@@ -11,7 +11,7 @@ use node_descriptor::LogicalType;
 use node_descriptor::descriptor::NodeDescriptorConfig;
 use node_power_descriptor::descriptor::PowerDescriptorConfig;
 use power_names::{CurrentPowerMode, CurrentPowerSourceLevel, PowerSource};
-use zdo_device::descriptor::{DeviceDescriptorConfig, EndpointDescriptor};
+use zdo_device::descriptor::{DeviceDescriptorConfig, EndpointDescriptor, Pools};
 use zdo_dispatcher::dispatcher::{Responded, dispatch};
 use zigbee_types::{IeeeAddress, ShortAddress};
 
@@ -107,8 +107,10 @@ pub fn our_response(
         our_device(),
         IeeeAddress(0x0102_0304_0506_0708),
         ShortAddress(0x1234),
-        &inputs,
-        &outputs,
+        Pools {
+            inputs: &inputs,
+            outputs: &outputs,
+        },
         table,
         cluster,
         payload,

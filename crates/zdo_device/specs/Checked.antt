@@ -1,7 +1,7 @@
--- Tables that were checked.
+-- The two pools that are lent beside a device, as the specs say them.
 use Rattle.zdo_device.specs.Tables.{Pools, pools}
-use Rattle.zdo_device.specs.declared.tables.Tables.{Tables}
+use Rattle.zdo_device.specs.declared.descriptor.Pools as lent
 
--- their two pools
-abbrev pub pools_of : Tables → Pools
-pools_of t = pools t.inputs.now t.outputs.now
+-- the clusters of each
+abbrev pub pools_of : lent.Pools → Pools
+pools_of p = pools p.inputs.now p.outputs.now

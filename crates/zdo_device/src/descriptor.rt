@@ -2,6 +2,7 @@
 ghost use Rattle.std.specs.Prelude.{◌+◌, ◌≤◌, ◌<◌, min, ◌≡◌, true, length};
 ghost use Rattle.zigbee_types.specs.Lists.{part};
 ghost use Rattle.zdo_device.specs.Tables.{pools, endpoint_record, supports_endpoint, record_fits, good_sizes, good_device, endpoint_of, clusters_of, endpoint_clusters};
+ghost use Rattle.zdo_device.specs.Checked.{pools_of};
 
 use node_descriptor::descriptor::NodeDescriptorConfig;
 use node_power_descriptor::descriptor::PowerDescriptorConfig;
@@ -10,6 +11,13 @@ use node_power_descriptor::descriptor::PowerDescriptorConfig;
 const RECORDS: usize = 32;
 
 const CLUSTERS: usize = 512;
+
+// The two pools of clusters that are lent beside a device (document 01, "Device tables and sizes").
+#[derive(Clone, Copy)]
+pub struct Pools<'a> {
+    pub inputs: &'a [u16],
+    pub outputs: &'a [u16],
+}
 
 // One application endpoint exposed by this device (2.3.2.5). Its clusters are a start and a count in each of two lent pools.
 #[derive(Clone, Copy)]
@@ -26,14 +34,15 @@ pub struct EndpointDescriptor {
 
 impl EndpointDescriptor {
     // Whether the record's two parts lie within their pools.
-    pub fn fits(self, inputs: &[u16], outputs: &[u16]) -> bool
-        ensures { result ≡ record_fits (pools inputs.now outputs.now) self }
+    pub fn fits(self, lent: Pools) -> bool
+        ensures { result ≡ record_fits (pools_of lent.entry) self }
     {
-        (end_of(self.input_start, self.input_count) <= inputs.len())
-            & (end_of(self.output_start, self.output_count) <= outputs.len())
+        (end_of(self.input_start, self.input_count) <= lent.inputs.len())
+            & (end_of(self.output_start, self.output_count) <= lent.outputs.len())
     }
 
     // The record's part of the pool of one side. Those who call it have checked the tables.
+    // The two pools stay two slices (document 01's form by place: "returned part of one of two lent u16 slices, chosen by side").
     #[tactic(auto, using(crate::proofs::Clusters::inputs_fit, crate::proofs::Clusters::outputs_fit))]
     pub fn clusters<'a>(self, side: Side, inputs: &'a [u16], outputs: &'a [u16]) -> &'a [u16]
         requires { record_fits (pools inputs.now outputs.now) self ≡ true }
@@ -76,20 +85,19 @@ impl DeviceDescriptorConfig {
     }
 
     // Whether the device's tables are good, with these pools (document 01, refusal 1).
-    pub fn good_tables(self, inputs: &[u16], outputs: &[u16]) -> bool
-        ensures { result ≡ good_device (pools inputs.now outputs.now) self }
+    pub fn good_tables(self, lent: Pools) -> bool
+        ensures { result ≡ good_device (pools_of lent.entry) self }
     {
         let count = self.endpoint_count;
-        if !good_sizes(count, inputs.len(), outputs.len()) {
+        if !good_sizes(count, lent.inputs.len(), lent.outputs.len()) {
             return false;
         }
-        self.endpoints[..count]
-            .iter()
-            .all(|ep| ep.fits(inputs, outputs))
+        self.endpoints[..count].iter().all(|ep| ep.fits(lent))
     }
 
     // An endpoint's part of the input pool or of the output pool, as the side says. (Added by document 01.) Empty where there is
     // no such endpoint, or the tables are not good.
+    // The two pools stay two slices (document 01's form by place: "returned part of one of two lent u16 slices, chosen by side").
     pub fn endpoint_clusters<'a>(
         self,
         side: Side,
@@ -99,7 +107,7 @@ impl DeviceDescriptorConfig {
     ) -> &'a [u16]
         ensures { result.now ≡ endpoint_clusters (pools inputs.now outputs.now) self side endpoint }
     {
-        if !self.good_tables(inputs, outputs) {
+        if !self.good_tables(Pools { inputs, outputs }) {
             return &inputs[..0];
         }
         let found = self.endpoint(endpoint);

@@ -161,8 +161,8 @@ module _ (seq : ℕ) (a : ShortAddress) (p : Pools) (d : DeviceDescriptorConfig)
   pub simple_good :
       {t : Tables} {before after : List ℕ} {told : Outcome ℕ}
       → r ≡ Some t
-      → IfSome r (λ t. (t.device.now ≡ d) × (pools_of t ≡ p))
-      → Wrote (simple_rsp_of seq a (pools_of t) t.device.now n) before told after
+      → IfSome r (λ t. (t.device.now ≡ d) × (pools_of t.pools ≡ p))
+      → Wrote (simple_rsp_of seq a (pools_of t.pools) t.device.now n) before told after
       → Wrote (simple_desc_rsp seq a p d n) before told after
   unfolding simple_desc_rsp
   simple_good is same w =

@@ -4,14 +4,14 @@ ghost use Rattle.zigbee_types.specs.Outcome.{Wrote};
 ghost use Rattle.zigbee_types.specs.Answers.{says};
 ghost use Rattle.simple_descriptor.specs.SimpleDescriptor.{simple_written};
 ghost use Rattle.zdo_replies.specs.Replies.{described_rsp};
-ghost use Rattle.zdo_device.specs.Tables.{pools, record_fits, endpoint_of};
+ghost use Rattle.zdo_device.specs.Tables.{record_fits, endpoint_of};
 ghost use Rattle.zdo_device.specs.Checked.{pools_of};
 ghost use Rattle.zdo_device_rsp.specs.TableReplies.{active_begun, active_ep_rsp, simple_rsp_of, simple_desc_rsp};
 
 use byte::Field;
 use simple_descriptor::descriptor::write;
 use zdo_desc_rsp::descriptor::{empty_rsp, write_header};
-use zdo_device::descriptor::{DeviceDescriptorConfig, EndpointDescriptor, Side};
+use zdo_device::descriptor::{DeviceDescriptorConfig, EndpointDescriptor, Pools, Side};
 use zdo_device::tables::Tables;
 use zdo_match_rsp::descriptor::list_rsp;
 use zdo_replies::descriptor::{STATUS_NOT_ACTIVE, STATUS_SUCCESS};
@@ -59,19 +59,17 @@ pub fn begin_active_ep_rsp(
 // Builds a Simple_Desc_rsp (2.4.4.2.5): seq, status, NWKAddrOfInterest, length, simple descriptor. An unknown endpoint yields
 // NOT_ACTIVE with length 0. Bad tables are refused, then more than 28 clusters, then too short a buffer; nothing is written in any of
 // these cases.
-
-pub fn simple_desc_rsp<'a>(
+pub fn simple_desc_rsp(
     device: DeviceDescriptorConfig,
     seq: u8,
     nwk_addr: ShortAddress,
     endpoint: u8,
-    inputs: &'a [u16],
-    outputs: &'a [u16],
+    lent: Pools,
     out: &mut [u8],
 ) -> Result<usize, Refusal>
-    ensures { Wrote (simple_desc_rsp seq nwk_addr (pools inputs.now outputs.now) device endpoint) out.old (says result) out.new }
+    ensures { Wrote (simple_desc_rsp seq nwk_addr (pools_of lent.entry) device endpoint) out.old (says result) out.new }
 {
-    let Some(tables) = Tables::checked(&device, inputs, outputs) else {
+    let Some(tables) = Tables::checked(&device, lent) else {
         return Err(Refusal::BadTables);
     };
     simple_desc_rsp_checked(tables, seq, nwk_addr, endpoint, out)
@@ -85,44 +83,38 @@ pub fn simple_desc_rsp_checked(
     endpoint: u8,
     out: &mut [u8],
 ) -> Result<usize, Refusal>
-    ensures { Wrote (simple_rsp_of seq nwk_addr (pools_of tables.entry) tables.entry.device.now endpoint) out.old (says result) out.new }
+    ensures { Wrote (simple_rsp_of seq nwk_addr (pools_of tables.entry.pools) tables.entry.device.now endpoint) out.old (says result) out.new }
 {
     let found = tables.device.endpoint(endpoint);
     match found {
-        Some(ep) => described_rsp(ep, seq, nwk_addr, tables.inputs, tables.outputs, out),
+        Some(ep) => described_rsp(ep, seq, nwk_addr, tables.pools, out),
         None => empty_rsp(seq, STATUS_NOT_ACTIVE, nwk_addr, out),
     }
 }
 
 // Builds the Simple_Desc_rsp of a record. The longest descriptor that is written has 64 bytes.
-fn described_rsp<'a>(
+fn described_rsp(
     ep: EndpointDescriptor,
     seq: u8,
     nwk_addr: ShortAddress,
-    inputs: &'a [u16],
-    outputs: &'a [u16],
+    lent: Pools,
     out: &mut [u8],
 ) -> Result<usize, Refusal>
-    requires { record_fits (pools inputs.now outputs.now) ep ≡ true }
-    ensures { Wrote (described_rsp seq nwk_addr (endpoint_of (pools inputs.now outputs.now) ep)) out.old (says result) out.new }
+    requires { record_fits (pools_of lent) ep ≡ true }
+    ensures { Wrote (described_rsp seq nwk_addr (endpoint_of (pools_of lent.entry) ep)) out.old (says result) out.new }
 {
     let mut desc = [0u8; 64];
-    let len = write_record(ep, inputs, outputs, &mut desc)?;
+    let len = write_record(ep, lent, &mut desc)?;
     list_rsp(seq, nwk_addr, &desc[..len], out)
 }
 
 // Writes the simple descriptor of a record (2.3.2.5) at the front of a buffer: its fields, and its parts of the two pools.
-fn write_record<'a>(
-    ep: EndpointDescriptor,
-    inputs: &'a [u16],
-    outputs: &'a [u16],
-    out: &mut [u8],
-) -> Result<usize, Refusal>
-    requires { record_fits (pools inputs.now outputs.now) ep ≡ true }
-    ensures { Wrote (simple_written (endpoint_of (pools inputs.now outputs.now) ep)) out.old (says result) out.new }
+fn write_record(ep: EndpointDescriptor, lent: Pools, out: &mut [u8]) -> Result<usize, Refusal>
+    requires { record_fits (pools_of lent) ep ≡ true }
+    ensures { Wrote (simple_written (endpoint_of (pools_of lent.entry) ep)) out.old (says result) out.new }
 {
-    let input_clusters = ep.clusters(Side::Input, inputs, outputs);
-    let output_clusters = ep.clusters(Side::Output, inputs, outputs);
+    let input_clusters = ep.clusters(Side::Input, lent.inputs, lent.outputs);
+    let output_clusters = ep.clusters(Side::Output, lent.inputs, lent.outputs);
     write(
         ep.endpoint,
         ep.profile_id,

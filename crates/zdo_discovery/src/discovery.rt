@@ -154,7 +154,7 @@ fn on_simple(
     payload: &[u8],
     out: &mut [u8],
 ) -> Result<usize, Refusal>
-    ensures { Wrote (and_then (simple_desc_req_in payload.now) (on_simple (pools_of tables.entry) tables.entry.device.now nwk_addr)) out.old (says result) out.new }
+    ensures { Wrote (and_then (simple_desc_req_in payload.now) (on_simple (pools_of tables.entry.pools) tables.entry.device.now nwk_addr)) out.old (says result) out.new }
 {
     let request = parse_simple_desc_req(payload)?;
     let asked = request.nwk_addr_of_interest;
@@ -190,7 +190,7 @@ fn matched_rsp(
     out: &mut [u8],
 ) -> Result<usize, Refusal>
     requires { good_places request payload.now ≡ true }
-    ensures { Wrote (list_rsp request.seq request.nwk_addr_of_interest (match_list (wanted request payload.now) (resolved_in (pools_of tables.entry) (used tables.entry.device.now)))) out.old (says result) out.new }
+    ensures { Wrote (list_rsp request.seq request.nwk_addr_of_interest (match_list (wanted request payload.now) (resolved_in (pools_of tables.entry.pools) (used tables.entry.device.now)))) out.old (says result) out.new }
 {
     let mut matches = [0u8; MATCHES];
     let matched = matching_endpoints_checked(tables, request, payload, &mut matches);
@@ -206,7 +206,7 @@ fn on_match(
     payload: &[u8],
     out: &mut [u8],
 ) -> Result<usize, Refusal>
-    ensures { Wrote (and_then (match_desc_req_in payload.now) (on_match tables.entry.device.now.node.logical_type (resolved_in (pools_of tables.entry) (used tables.entry.device.now)) nwk_addr payload.now)) out.old (says result) out.new }
+    ensures { Wrote (and_then (match_desc_req_in payload.now) (on_match tables.entry.device.now.node.logical_type (resolved_in (pools_of tables.entry.pools) (used tables.entry.device.now)) nwk_addr payload.now)) out.old (says result) out.new }
 {
     let request = parse_match_desc_req(payload)?;
     if request.nwk_addr_of_interest == nwk_addr {
@@ -227,7 +227,7 @@ pub fn discovery(
     payload: &[u8],
     out: &mut [u8],
 ) -> Result<usize, Refusal>
-    ensures { Wrote (discovery (host_with tables.entry.device.now ieee_addr nwk_addr (pools_of tables.entry)) cluster payload.now) out.old (says result) out.new }
+    ensures { Wrote (discovery (host_with tables.entry.device.now ieee_addr nwk_addr (pools_of tables.entry.pools)) cluster payload.now) out.old (says result) out.new }
 {
     let node = tables.device.node;
     let power = tables.device.power;

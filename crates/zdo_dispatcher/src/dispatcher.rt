@@ -9,7 +9,6 @@ ghost use Rattle.zdo_requests.specs.Requests.{mgmt_leave_req_in};
 ghost use Rattle.zigbee_types.specs.Statuses.{SUCCESS};
 ghost use Rattle.zdo_replies.specs.Codes.{bind_code};
 ghost use Rattle.zdo_replies.specs.Replies.{status_rsp};
-ghost use Rattle.zdo_device.specs.Tables.{pools};
 ghost use Rattle.zdo_device.specs.Checked.{pools_of};
 ghost use Rattle.zdo_discovery.specs.Host.{host_with, asking};
 ghost use Rattle.zdo_discovery.specs.Discovery.{discovered};
@@ -21,7 +20,7 @@ use aps_binding_table::binding::{
     BindingError, BindingTable, Linked, create_binding_link, good_sizes, remove_binding_link,
 };
 use zdo_bind_req::descriptor::parse_bind_req;
-use zdo_device::descriptor::DeviceDescriptorConfig;
+use zdo_device::descriptor::{DeviceDescriptorConfig, Pools};
 use zdo_device::tables::Tables;
 use zdo_discovery::discovery::discovery;
 use zdo_leave_req::descriptor::parse_mgmt_leave_req;
@@ -184,7 +183,7 @@ fn on_discovery(
     payload: &[u8],
     out: &mut [u8],
 ) -> Result<Response, Refusal>
-    ensures { (t : BindingTable) → Dispatched (mapped (λ bytes. reply (reply_cluster cluster) bytes t) (discovered (host_with tables.entry.device.now ieee_addr nwk_addr (pools_of tables.entry)) (asking cluster payload.now out.old))) t out.old (response_says result) t out.new }
+    ensures { (t : BindingTable) → Dispatched (mapped (λ bytes. reply (reply_cluster cluster) bytes t) (discovered (host_with tables.entry.device.now ieee_addr nwk_addr (pools_of tables.entry.pools)) (asking cluster payload.now out.old))) t out.old (response_says result) t out.new }
 {
     let written = discovery(tables, ieee_addr, nwk_addr, cluster, payload, out);
     told(cluster, written)
@@ -201,7 +200,7 @@ fn take(
     payload: &[u8],
     out: &mut [u8],
 ) -> Result<Taken, Refusal>
-    ensures { TakenTo (answered_with (host_with tables.entry.device.now ieee_addr nwk_addr (pools_of tables.entry)) (asking cluster payload.now out.old)) cluster result out.old out.new }
+    ensures { TakenTo (answered_with (host_with tables.entry.device.now ieee_addr nwk_addr (pools_of tables.entry.pools)) (asking cluster payload.now out.old)) cluster result out.old out.new }
 {
     let device = tables.device;
     match cluster {
@@ -222,21 +221,20 @@ fn take(
 // that is none of the ten, then a payload that is malformed, then a descriptor of too many clusters, then too short a buffer; buffer
 // and table are then as they were. (The table is handed on only where an entry is bound or unbound: each function that takes it copies
 // it. The second arm returns by itself, since two arms that meet cost a copy.)
-pub fn dispatch<'a>(
+pub fn dispatch(
     device: DeviceDescriptorConfig,
     ieee_addr: IeeeAddress,
     nwk_addr: ShortAddress,
-    inputs: &'a [u16],
-    outputs: &'a [u16],
+    lent: Pools,
     table: BindingTable,
     cluster: u16,
     payload: &[u8],
     out: &mut [u8],
 ) -> Responded
-    ensures { Dispatched (answered (host_with device ieee_addr nwk_addr (pools inputs.now outputs.now)) table (asking cluster payload.now out.old)) table out.old (response_says result.response) result.table out.new }
+    ensures { Dispatched (answered (host_with device ieee_addr nwk_addr (pools_of lent.entry)) table (asking cluster payload.now out.old)) table out.old (response_says result.response) result.table out.new }
 {
     let refused = Err(Refusal::BadTables);
-    let Some(tables) = Tables::checked(&device, inputs, outputs) else {
+    let Some(tables) = Tables::checked(&device, lent) else {
         return Responded {
             table,
             response: refused,

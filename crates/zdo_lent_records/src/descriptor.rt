@@ -3,13 +3,14 @@
 ghost use Rattle.std.specs.Prelude.{◌≡◌, take};
 ghost use Rattle.zigbee_types.specs.Outcome.{Wrote, Begun};
 ghost use Rattle.zigbee_types.specs.Answers.{says};
-ghost use Rattle.zdo_device.specs.Tables.{pools, good_records};
+ghost use Rattle.zdo_device.specs.Tables.{good_records};
+ghost use Rattle.zdo_device.specs.Checked.{pools_of};
 ghost use Rattle.zdo_matching.specs.Matching.{matched_records};
 ghost use Rattle.zdo_matching.specs.Answers.{matching_says};
 ghost use Rattle.zdo_device_rsp.specs.TableReplies.{active_records};
 
 use byte::Field;
-use zdo_device::descriptor::{EndpointDescriptor, good_sizes};
+use zdo_device::descriptor::{EndpointDescriptor, Pools, good_sizes};
 use zdo_device_rsp::descriptor::begin_active_ep_rsp;
 use zdo_matching::descriptor::{Matched, good_places, match_record};
 use zdo_requests::descriptor::MatchDescReq;
@@ -21,32 +22,27 @@ const LENT: usize = 33;
 // ---- over a lent run
 
 // Whether a run of records is good, with these pools (document 01, refusal 1).
-pub fn good_records<'a>(
-    endpoints: &[EndpointDescriptor],
-    inputs: &'a [u16],
-    outputs: &'a [u16],
-) -> bool
-    ensures { result ≡ good_records (pools inputs.now outputs.now) endpoints.now }
+pub fn good_records(endpoints: &[EndpointDescriptor], lent: Pools) -> bool
+    ensures { result ≡ good_records (pools_of lent.entry) endpoints.now }
 {
-    if !good_sizes(endpoints.len(), inputs.len(), outputs.len()) {
+    if !good_sizes(endpoints.len(), lent.inputs.len(), lent.outputs.len()) {
         return false;
     }
-    endpoints.iter().all(|ep| ep.fits(inputs, outputs))
+    endpoints.iter().all(|ep| ep.fits(lent))
 }
 
 // Writes the endpoints matching the request (2.4.4.2.7.1.1) at the front of `out`, as `matching_endpoints` does. A bad run is refused,
 // and then lists that run past the payload; nothing is written in either case.
-pub fn matching_endpoints_lent<'a>(
+pub fn matching_endpoints_lent(
     endpoints: &[EndpointDescriptor],
-    inputs: &'a [u16],
-    outputs: &'a [u16],
+    lent: Pools,
     request: MatchDescReq,
     payload: &[u8],
     out: &mut [u8],
 ) -> Result<Matched, Refusal>
-    ensures { Begun (matched_records (pools inputs.now outputs.now) endpoints.now request payload.now) out.old (matching_says result) out.new }
+    ensures { Begun (matched_records (pools_of lent.entry) endpoints.now request payload.now) out.old (matching_says result) out.new }
 {
-    if !good_records(endpoints, inputs, outputs) {
+    if !good_records(endpoints, lent) {
         return Err(Refusal::BadTables);
     }
     if !good_places(request, payload) {
@@ -54,7 +50,7 @@ pub fn matching_endpoints_lent<'a>(
     }
     let mut matched = Matched { written: 0 };
     for ep in endpoints {
-        matched = match_record(matched, *ep, inputs, outputs, request, payload, out);
+        matched = match_record(matched, *ep, lent, request, payload, out);
     }
     Ok(matched)
 }
@@ -79,25 +75,17 @@ pub fn active_ep_rsp_lent(
 // ---- a run that is lent from an array
 
 // Lends the first records of an array to matching (2.4.4.2.7.1.1): for those who hold them by value.
-pub fn lend_matching_endpoints<'a>(
+pub fn lend_matching_endpoints(
     endpoints: [EndpointDescriptor; 33],
     count: usize,
-    inputs: &'a [u16],
-    outputs: &'a [u16],
+    lent: Pools,
     request: MatchDescReq,
     payload: &[u8],
     out: &mut [u8],
 ) -> Result<Matched, Refusal>
-    ensures { Begun (matched_records (pools inputs.now outputs.now) (take count endpoints) request payload.now) out.old (matching_says result) out.new }
+    ensures { Begun (matched_records (pools_of lent.entry) (take count endpoints) request payload.now) out.old (matching_says result) out.new }
 {
-    matching_endpoints_lent(
-        &endpoints[..count.min(LENT)],
-        inputs,
-        outputs,
-        request,
-        payload,
-        out,
-    )
+    matching_endpoints_lent(&endpoints[..count.min(LENT)], lent, request, payload, out)
 }
 
 // Lends them to the active list (2.4.4.2.6).

@@ -148,8 +148,8 @@ module _ (p : Pools) (d : DeviceDescriptorConfig) (q : MatchDescReq) (payload be
     pub found_matched :
         not u ≡ false
         → (t : Tables) (m : Matched) {after : List ℕ}
-        → (t.device.now ≡ d) × (pools_of t ≡ p)
-        → Begun (answer (match_list (wanted q payload) (resolved_in (pools_of t) (used t.device.now)))) before (answer m.written) after
+        → (t.device.now ≡ d) × (pools_of t.pools ≡ p)
+        → Begun (answer (match_list (wanted q payload) (resolved_in (pools_of t.pools) (used t.device.now)))) before (answer m.written) after
         → Begun (matching_endpoints p d q payload) before (matching_says (Ok m)) after
     unfolding matching_says mapped says matching_endpoints matched_in
     found_matched fine t m same h = rw (← good, said_yes places fine) (rw (same.0, same.1) at h)

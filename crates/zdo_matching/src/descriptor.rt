@@ -2,13 +2,13 @@
 ghost use Rattle.std.specs.Prelude.{◌≤◌, ◌≡◌, true, leb, length};
 ghost use Rattle.zigbee_types.specs.Outcome.{answer, Begun};
 ghost use Rattle.zigbee_types.specs.Layout.{behind, entries_at};
-ghost use Rattle.zdo_device.specs.Tables.{pools, used, record_fits, good_device, endpoint_of, resolved_in};
+ghost use Rattle.zdo_device.specs.Tables.{used, record_fits, good_device, endpoint_of, resolved_in};
 ghost use Rattle.zdo_device.specs.Checked.{pools_of};
 ghost use Rattle.zdo_matching.specs.Matching.{wanted, profile_matches, shared, matches, match_list, good_places, matching_endpoints, may_match, matched_with};
 ghost use Rattle.zdo_matching.specs.Answers.{matching_says};
 
 use byte::Field;
-use zdo_device::descriptor::{DeviceDescriptorConfig, EndpointDescriptor, Side};
+use zdo_device::descriptor::{DeviceDescriptorConfig, EndpointDescriptor, Pools, Side};
 use zdo_device::tables::Tables;
 use zdo_requests::descriptor::MatchDescReq;
 use zigbee_types::{Places, Refusal};
@@ -25,17 +25,16 @@ pub struct Matched {
 // Writes the endpoints matching the request (2.4.4.2.7.1.1) at the front of `out`, in table order, as many as there is room for;
 // what stands behind them stays. The request's lists stand in the payload. Bad tables are refused, and then lists that run past the
 // payload; nothing is written in either case.
-pub fn matching_endpoints<'a>(
+pub fn matching_endpoints(
     device: DeviceDescriptorConfig,
-    inputs: &'a [u16],
-    outputs: &'a [u16],
+    lent: Pools,
     request: MatchDescReq,
     payload: &[u8],
     out: &mut [u8],
 ) -> Result<Matched, Refusal>
-    ensures { Begun (matching_endpoints (pools inputs.now outputs.now) device request payload.now) out.old (matching_says result) out.new }
+    ensures { Begun (matching_endpoints (pools_of lent.entry) device request payload.now) out.old (matching_says result) out.new }
 {
-    let Some(tables) = Tables::checked(&device, inputs, outputs) else {
+    let Some(tables) = Tables::checked(&device, lent) else {
         return Err(Refusal::BadTables);
     };
     if !good_places(request, payload) {
@@ -52,40 +51,31 @@ pub fn matching_endpoints_checked(
     out: &mut [u8],
 ) -> Matched
     requires { good_places request payload.now ≡ true }
-    ensures { Begun (answer (match_list (wanted request payload.now) (resolved_in (pools_of tables.entry) (used tables.entry.device.now)))) out.old (answer result.written) out.new }
+    ensures { Begun (answer (match_list (wanted request payload.now) (resolved_in (pools_of tables.entry.pools) (used tables.entry.device.now)))) out.old (answer result.written) out.new }
 {
     let device = tables.device;
     let mut matched = Matched { written: 0 };
     for ep in &device.endpoints[..device.endpoint_count] {
-        matched = match_record(
-            matched,
-            *ep,
-            tables.inputs,
-            tables.outputs,
-            request,
-            payload,
-            out,
-        );
+        matched = match_record(matched, *ep, tables.pools, request, payload, out);
     }
     matched
 }
 
 // What was found, with one record more (2.4.4.2.7.1.1): where that matches, its number goes behind those that stand in `out`, if there
 // is room.
-pub fn match_record<'a>(
+pub fn match_record(
     matched: Matched,
     ep: EndpointDescriptor,
-    inputs: &'a [u16],
-    outputs: &'a [u16],
+    lent: Pools,
     request: MatchDescReq,
     payload: &[u8],
     out: &mut [u8],
 ) -> Matched
-    requires { may_match (pools inputs.now outputs.now) ep request payload.now (length out.old) (answer matched.written) ≡ true }
-    ensures { Begun (matched_with (wanted request payload.now) (endpoint_of (pools inputs.now outputs.now) ep) out.old (answer matched.written)) out.old (answer result.written) out.new }
+    requires { may_match (pools_of lent) ep request payload.now (length out.old) (answer matched.written) ≡ true }
+    ensures { Begun (matched_with (wanted request payload.now) (endpoint_of (pools_of lent.entry) ep) out.old (answer matched.written)) out.old (answer result.written) out.new }
 {
     let written = matched.written;
-    if !record_matches(ep, inputs, outputs, request, payload) {
+    if !record_matches(ep, lent, request, payload) {
         return matched;
     }
     if written >= out.len() {
@@ -98,27 +88,26 @@ pub fn match_record<'a>(
 }
 
 // Whether a record matches: its profile, and an input or an output that is asked for.
-fn record_matches<'a>(
+fn record_matches(
     ep: EndpointDescriptor,
-    inputs: &'a [u16],
-    outputs: &'a [u16],
+    lent: Pools,
     request: MatchDescReq,
     payload: &[u8],
 ) -> bool
-    requires ep_value { record_fits (pools inputs.now outputs.now) ep ≡ true }
+    requires ep_value { record_fits (pools_of lent) ep ≡ true }
     requires payload_value { good_places request payload.now ≡ true }
-    ensures { result ≡ matches (wanted request payload.now) (endpoint_of (pools inputs.now outputs.now) ep) }
+    ensures { result ≡ matches (wanted request payload.now) (endpoint_of (pools_of lent.entry) ep) }
 {
     if !profile_matches(request.profile_id, ep.profile_id) {
         return false;
     }
     let requested = request.input_clusters;
-    let own = ep.clusters(Side::Input, inputs, outputs);
+    let own = ep.clusters(Side::Input, lent.inputs, lent.outputs);
     if shares(payload, requested, own) {
         return true;
     }
     let requested = request.output_clusters;
-    let own = ep.clusters(Side::Output, inputs, outputs);
+    let own = ep.clusters(Side::Output, lent.inputs, lent.outputs);
     shares(payload, requested, own)
 }
 

@@ -5,7 +5,8 @@ use Rattle.std.proofs.lemmas.Iterator.{YieldsList-from_slice}
 use Rattle.std.proofs.lemmas.Iterator.Search.{all_from_yields_List}
 use lib.ListN.{take}
 use Rattle.zigbee_types.proofs.Elements.{length_mapped}
-use Rattle.zdo_device.specs.Tables.{pools, record_fits}
+use Rattle.zdo_device.specs.Tables.{record_fits}
+use Rattle.zdo_device.specs.Checked.{pools_of}
 use Rattle.zdo_device.proofs.Records.{sizes_bad, sizes_few, all_checked}
 use Rattle.zdo_device.proofs.descriptor.DeviceDescriptorConfig.good_tables.Goals as goal
 
@@ -20,5 +21,5 @@ shared_ref_as_front-iter c = search laws
 pub returns : goal.returns
 returns c =
     let from = YieldsList-from_slice (take c.args.self.endpoint_count c.args.self.endpoints) cc in
-    let all = all_from_yields_List (record_fits (pools c.args.inputs.now c.args.outputs.now)) _ _ c.all.result c.all.ensures.ran from (λ x b q k. search (rules, tests)) in
+    let all = all_from_yields_List (record_fits (pools_of c.args.lent)) _ _ c.all.result c.all.ensures.ran from (λ x b q k. search (rules, tests)) in
     search (laws, all_checked)
