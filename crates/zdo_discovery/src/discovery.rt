@@ -8,9 +8,10 @@ ghost use Rattle.zdo_replies.specs.Replies.{list_rsp};
 ghost use Rattle.zdo_device.specs.Tables.{used, resolved_in};
 ghost use Rattle.zdo_device.specs.Checked.{pools_of};
 ghost use Rattle.zdo_matching.specs.Matching.{wanted, match_list, good_places};
-ghost use Rattle.zdo_discovery.specs.Host.{host_with};
+ghost use Rattle.zdo_discovery.specs.Hosted.{host_of};
 ghost use Rattle.zdo_discovery.specs.Discovery.{our_address, on_nwk_addr, on_ieee_addr, not_ours, on_node, on_power, on_simple, on_active, on_match, discovery};
 
+use crate::host::Host;
 use node_descriptor::LogicalType;
 use node_descriptor::descriptor::NodeDescriptorConfig;
 use node_power_descriptor::descriptor::PowerDescriptorConfig;
@@ -219,16 +220,12 @@ fn on_match(
 
 // Replies to a discovery request, by its cluster; any other cluster is refused. A malformed payload is refused, then a descriptor of
 // too many clusters, then too short a buffer; nothing is written in any of these cases.
-pub fn discovery(
-    tables: Tables,
-    ieee_addr: IeeeAddress,
-    nwk_addr: ShortAddress,
-    cluster: u16,
-    payload: &[u8],
-    out: &mut [u8],
-) -> Result<usize, Refusal>
-    ensures { Wrote (discovery (host_with tables.entry.device.now ieee_addr nwk_addr (pools_of tables.entry.pools)) cluster payload.now) out.old (says result) out.new }
+pub fn discovery(host: Host, cluster: u16, payload: &[u8], out: &mut [u8]) -> Result<usize, Refusal>
+    ensures { Wrote (discovery (host_of host.entry) cluster payload.now) out.old (says result) out.new }
 {
+    let tables = host.tables;
+    let ieee_addr = host.ieee_addr;
+    let nwk_addr = host.nwk_addr;
     let node = tables.device.node;
     let power = tables.device.power;
     match cluster {

@@ -2,3 +2,4 @@
 #![tactic(auto)]
 
 pub mod discovery;
+pub mod host;

@@ -11,6 +11,7 @@ ghost use Rattle.zdo_replies.specs.Codes.{bind_code};
 ghost use Rattle.zdo_replies.specs.Replies.{status_rsp};
 ghost use Rattle.zdo_device.specs.Checked.{pools_of};
 ghost use Rattle.zdo_discovery.specs.Host.{host_with, asking};
+ghost use Rattle.zdo_discovery.specs.Hosted.{host_of};
 ghost use Rattle.zdo_discovery.specs.Discovery.{discovered};
 ghost use Rattle.zdo_dispatcher.specs.Answers.{reply, leaving, replied, response_says, step_of, source_status, link_answer, answered, Dispatched};
 ghost use Rattle.zdo_dispatcher.specs.Taken.{link_with, answered_with, TakenTo};
@@ -23,6 +24,7 @@ use zdo_bind_req::descriptor::parse_bind_req;
 use zdo_device::descriptor::{DeviceDescriptorConfig, Pools};
 use zdo_device::tables::Tables;
 use zdo_discovery::discovery::discovery;
+use zdo_discovery::host::Host;
 use zdo_leave_req::descriptor::parse_mgmt_leave_req;
 use zdo_replies::descriptor::{BindStatus, STATUS_SUCCESS, bind_rsp};
 use zdo_requests::descriptor::{BIND_REQ, BindReq, MGMT_LEAVE_REQ, MgmtLeaveReq, UNBIND_REQ};
@@ -59,7 +61,8 @@ fn told(cluster: u16, written: Result<usize, Refusal>) -> Result<Response, Refus
 
 // ---- bind and unbind
 
-// What a request does with the entry that it names.
+// What a request does with the entry that it names. (No closure: the step is known before the table is there, and a function that is
+// handed on in `Taken` is one that the gate refuses.)
 #[derive(Clone, Copy)]
 enum Link {
     Bind,
@@ -176,33 +179,26 @@ fn on_leave(payload: &[u8]) -> Result<Response, Refusal>
 
 // Answers a discovery request, and refuses a cluster that is none of the ten. No binding table comes into it.
 fn on_discovery(
-    tables: Tables,
-    ieee_addr: IeeeAddress,
-    nwk_addr: ShortAddress,
+    host: Host,
     cluster: u16,
     payload: &[u8],
     out: &mut [u8],
 ) -> Result<Response, Refusal>
-    ensures { (t : BindingTable) → Dispatched (mapped (λ bytes. reply (reply_cluster cluster) bytes t) (discovered (host_with tables.entry.device.now ieee_addr nwk_addr (pools_of tables.entry.pools)) (asking cluster payload.now out.old))) t out.old (response_says result) t out.new }
+    ensures { (t : BindingTable) → Dispatched (mapped (λ bytes. reply (reply_cluster cluster) bytes t) (discovered (host_of host.entry) (asking cluster payload.now out.old))) t out.old (response_says result) t out.new }
 {
-    let written = discovery(tables, ieee_addr, nwk_addr, cluster, payload, out);
+    let written = discovery(host, cluster, payload, out);
     told(cluster, written)
 }
 
 // ---- any request
 
 // Takes a request as far as it goes without the binding table.
-fn take(
-    tables: Tables,
-    ieee_addr: IeeeAddress,
-    nwk_addr: ShortAddress,
-    cluster: u16,
-    payload: &[u8],
-    out: &mut [u8],
-) -> Result<Taken, Refusal>
-    ensures { TakenTo (answered_with (host_with tables.entry.device.now ieee_addr nwk_addr (pools_of tables.entry.pools)) (asking cluster payload.now out.old)) cluster result out.old out.new }
+fn take(host: Host, cluster: u16, payload: &[u8], out: &mut [u8]) -> Result<Taken, Refusal>
+    ensures { TakenTo (answered_with (host_of host.entry) (asking cluster payload.now out.old)) cluster result out.old out.new }
 {
+    let tables = host.tables;
     let device = tables.device;
+    let ieee_addr = host.ieee_addr;
     match cluster {
         BIND_REQ => take_link(Link::Bind, *device, ieee_addr, cluster, payload, out),
         UNBIND_REQ => take_link(Link::Unbind, *device, ieee_addr, cluster, payload, out),
@@ -211,7 +207,7 @@ fn take(
             Ok(Taken::Answered(response))
         }
         _ => {
-            let response = on_discovery(tables, ieee_addr, nwk_addr, cluster, payload, out)?;
+            let response = on_discovery(host, cluster, payload, out)?;
             Ok(Taken::Answered(response))
         }
     }
@@ -220,7 +216,7 @@ fn take(
 // Answers a request: a reply in the buffer, or a leave for the host, with the table after it. Refused are bad tables, then a cluster
 // that is none of the ten, then a payload that is malformed, then a descriptor of too many clusters, then too short a buffer; buffer
 // and table are then as they were. (The table is handed on only where an entry is bound or unbound: each function that takes it copies
-// it. The second arm returns by itself, since two arms that meet cost a copy.)
+// it. The arm that hands it on returns by itself, since arms that meet cost a copy.)
 pub fn dispatch(
     device: DeviceDescriptorConfig,
     ieee_addr: IeeeAddress,
@@ -246,7 +242,12 @@ pub fn dispatch(
             response: refused,
         };
     }
-    let read = take(tables, ieee_addr, nwk_addr, cluster, payload, out);
+    let host = Host {
+        tables,
+        ieee_addr,
+        nwk_addr,
+    };
+    let read = take(host, cluster, payload, out);
     match read {
         Ok(taken) => match taken {
             Taken::Answered(response) => {
@@ -257,9 +258,9 @@ pub fn dispatch(
                 return link_answer(link, table, request, cluster, out);
             }
         },
-        Err(why) => Responded {
-            table,
-            response: Err(why),
-        },
+        Err(why) => {
+            let response = Err(why);
+            Responded { table, response }
+        }
     }
 }
