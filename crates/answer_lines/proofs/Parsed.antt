@@ -1,4 +1,4 @@
--- What was read of a line: a request with its payload in the buffer, or None; and that the longest line has room. Assumes nothing.
+-- What was read of a line: a request with its payload in the buffer, or none; and that the longest line has room. Assumes nothing.
 use Rattle.std.specs.Prelude.{Option, None, Some, Result, Ok, Err}
 use Rattle.std.specs.Result.{result_unwrap_or}
 use Prim.Native.Nat.{ℕ, ◌≤◌}
@@ -50,7 +50,7 @@ stands (Some q) {before} {after} cluster n l = go (leb (length q.payload) (lengt
         }
     go false e left = let z : ◌≡◌ {A = ℕ} 0 1 = cc in absurd (omega arith)
 
--- ---- None
+-- ---- none
 
 no_request : (o : Option Request) {before after : List ℕ} → LineRead o before (says (Ok None)) after → o ≡ None
 unfolding says with_room mapped heard_of
@@ -127,7 +127,7 @@ module _ (line : List ℕ) {before buffer : List ℕ} where
       unfolding said option
       line_heard t w = rw there.is w
 
-    -- there is None
+    -- there is none
     pub line_unheard :
         {t : BindingTable} {out later : List ℕ} {told : Outcome ℕ}
         → o ≡ None

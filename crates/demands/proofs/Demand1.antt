@@ -148,7 +148,7 @@ greater_few m n b c d less = go (leb m 32) refl
     go true e = rw (le-leb n 32 (omega (arith, leb-true m 32 e)))
     go false e = refl
 
--- all pass a test exactly if None fails it
+-- all pass a test exactly if none fails it
 none_fails : {A : Type 0} (p q : A → Bool) → ((x : A) → p x ≡ not (q x)) → (xs : List A) → all p xs ≡ not (any q xs)
 unfolding all any
 none_fails p q same [] = refl
@@ -354,7 +354,7 @@ data Each (P : ℕ → Type 0) : List ℕ → Type 0 where
   end : Each P []
   ◌&◌ : {x : ℕ} {xs : List ℕ} → P x → Each P xs → Each P (x ∷ xs)
 
--- any number has it, if each of these has it and a number that is None of them
+-- any number has it, if each of these has it and a number that is none of them
 each_or_none : (P : ℕ → Type 0) (c : ℕ) (xs : List ℕ) → Each P xs → (Each (λ x. eqb c x ≡ false) xs → P c) → P c
 each_or_none P c [] end other = other end
 each_or_none P c (x ∷ xs) (here & behind) other =

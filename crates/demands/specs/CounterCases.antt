@@ -86,7 +86,7 @@ K6 =
 unfoldable pub K7 : Case
 K7 = record { says = found (0x09 ∷ 0x34 ∷ 0x12 ∷ 0x04 ∷ 0x01 ∷ 0x01 ∷ 0x02 ∷ 0x04 ∷ 0x00 ∷ []) ∷ []; expected = answer (1 ∷ []) ∷ [] }
 
--- K8: profile 0xFFFF and no clusters find None
+-- K8: profile 0xFFFF and no clusters find none
 unfoldable pub K8 : Case
 K8 = record { says = found (0x09 ∷ 0x34 ∷ 0x12 ∷ 0xFF ∷ 0xFF ∷ 0x00 ∷ 0x00 ∷ []) ∷ []; expected = answer [] ∷ [] }
 

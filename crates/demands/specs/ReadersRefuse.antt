@@ -6,7 +6,7 @@ use Rattle.zigbee_types.specs.Statuses.{SUCCESS}
 use Rattle.zdo_readers.specs.Readers.{header_in, node_reply_in, power_reply_in, node_desc_rsp_in, addr_reply_in, status_reply_in}
 use Rattle.zdo_list_readers.specs.ListReaders.{list_reply_in, match_reply_in, simple_reply_in}
 
--- the number of a refusal; an answer has None
+-- the number of a refusal; an answer has none
 unfoldable pub refusal_of : {A : Type 0} → Outcome A → Option ℕ
 refusal_of (answer a) = None
 refusal_of (refusal n) = Some n
@@ -15,7 +15,7 @@ refusal_of (refusal n) = Some n
 abbrev pub malformed_if : Bool → Option ℕ
 malformed_if b = cond b (Some 3) None
 
--- byte i of a reply or a payload, counted from 0; 0 where there is None
+-- byte i of a reply or a payload, counted from 0; 0 where there is none
 abbrev pub byte_of : List ℕ → ℕ → ℕ
 byte_of reply i = get_or reply i 0
 
@@ -36,7 +36,7 @@ source_stands reply =
 
 -- does a simple descriptor from byte 5 on need more than the bytes that its length, byte 4, gives it: 8, and two for each cluster of
 -- its two lists? They are counted at byte 6 of the descriptor and behind the first list. (Where a count stands past that length, the
--- descriptor needs more already by what comes before.) Length 0 means None.
+-- descriptor needs more already by what comes before.) Length 0 means none.
 abbrev pub runs_over : List ℕ → Bool
 runs_over reply =
     let len = byte_of reply 4 in

@@ -152,7 +152,7 @@ unfoldable pub no_devices : Bool → Option Associated
 no_devices true = Some (record { num_assoc_dev = 0; start_index = 0; devices = record { start = 14; count = 0 } })
 no_devices false = None
 
--- of a simple reply: the descriptor of the first record with the number; where there is None, NOT_ACTIVE
+-- of a simple reply: the descriptor of the first record with the number; where there is none, NOT_ACTIVE
 unfoldable pub cut_simple : ℕ → ShortAddress → Pools → DeviceDescriptorConfig → ℕ → ReplyHeader × Option Endpoint
 cut_simple seq a p d n =
     option (cut_header seq NOT_ACTIVE a, None) (λ e. (cut_header seq SUCCESS a, Some (cut_endpoint (endpoint_of p e)))) (endpoint_record d n)

@@ -28,7 +28,7 @@ unfoldable pub cluster_in : List ℕ → ℕ
 cluster_in line =
     4096 * digit_value (get_or line 0 0) + 256 * digit_value (get_or line 1 0) + 16 * digit_value (get_or line 2 0) + digit_value (get_or line 3 0)
 
--- the request of a line, or None
+-- the request of a line, or none
 unfoldable pub request_in : List ℕ → Option Request
 request_in line = cond (is_request line) (Some (record { cluster = cluster_in line; payload = bytes_in (drop 5 line) })) None
 

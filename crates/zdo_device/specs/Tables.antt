@@ -23,7 +23,7 @@ pools inputs outputs = record { inputs = inputs; outputs = outputs }
 unfoldable pub used : DeviceDescriptorConfig → List EndpointDescriptor
 used d = take d.endpoint_count d.endpoints
 
--- `endpoint`: the first record in use that has a number, or None; it refuses nothing
+-- `endpoint`: the first record in use that has a number, or none; it refuses nothing
 unfoldable pub endpoint_record : DeviceDescriptorConfig → ℕ → Option EndpointDescriptor
 endpoint_record d n = find (λ e. eqb e.endpoint n) (used d)
 

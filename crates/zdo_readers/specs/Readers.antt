@@ -31,7 +31,7 @@ header_in = parsed header_widths (λ field. record { seq = field 0; status = fie
 
 -- ---- node and power
 
--- node and power replies: with SUCCESS a descriptor stands from byte 4 on, and may be refused; with another status there is None
+-- node and power replies: with SUCCESS a descriptor stands from byte 4 on, and may be refused; with another status there is none
 unfoldable pub descriptor_reply_in : {D R : Type 0} → (List ℕ → Outcome D) → (ReplyHeader → D → R) → (ReplyHeader → R) → List ℕ → Outcome R
 descriptor_reply_in descriptorIn with without reply =
     and_then (header_in reply) (λ h. cond (eqb h.status SUCCESS) (mapped (with h) (descriptorIn (drop 4 reply))) (answer (without h)))

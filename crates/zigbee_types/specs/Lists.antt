@@ -6,7 +6,7 @@ module _ {A : Type 0} where
   abbrev pub part : ℕ → ℕ → List A → List A
   part start n xs = take n (drop start xs)
 
-  -- does Some element pass the test?
+  -- does some element pass the test?
   unfoldable pub any : (A → Bool) → List A → Bool
   any p [] = false
   any p (x ∷ xs) = p x || any p xs
