@@ -36,7 +36,6 @@ use Rattle.zdo_device.specs.declared.descriptor.DeviceDescriptorConfig.{DeviceDe
 use Rattle.zdo_dispatcher.specs.Answers.{reply, Told, replied, table_after, response_says, step_of, source_status, link_step, link_answer, Dispatched}
 use Rattle.zdo_dispatcher.specs.declared.dispatcher.Link.{Link}
 use Rattle.zdo_dispatcher.specs.declared.dispatcher.Link.TheVariants.{Bind, Unbind}
-use Rattle.zdo_dispatcher.specs.declared.dispatcher.Response.TheVariants as response
 use Rattle.zdo_dispatcher.proofs.Told.{dispatched_refused, dispatched_reply, kept}
 
 -- ---- the source

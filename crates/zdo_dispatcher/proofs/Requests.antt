@@ -4,7 +4,7 @@ use Rattle.std.specs.Result.{IsErr, IsErrAnd}
 use Prim.Native.Nat.{ℕ, ◌^◌, ◌<◌}
 use native.Mathlib.Omega.{arith}
 use mathlib.Core.Path.{◌≡◌, refl, sym, ◌∙◌}
-use mathlib.Core.Bool.{Bool, true, false, not}
+use mathlib.Core.Bool.{Bool, true, false}
 use mathlib.Core.List.{List, [], ◌∷◌}
 use lib.ListN.{length}
 use borrow.Author.Tests.{ne_eqb}
@@ -17,14 +17,13 @@ use Rattle.zigbee_types.specs.declared.Refusal.TheVariants.{BadTables}
 use Rattle.zigbee_types.proofs.Named.{Unnamed}
 use Rattle.zigbee_types.proofs.Outcomes.{wrote_answer}
 use Rattle.zigbee_types.proofs.Passed.{passed}
-use Rattle.zigbee_types.proofs.Scans.{said_no, said_yes}
 use Rattle.aps_binding_table.specs.Table.{good_sizes, good_table}
 use Rattle.aps_binding_table.specs.declared.binding.BindingTable.{BindingTable}
 use Rattle.zdo_requests.specs.Clusters.{BIND_REQ_NUMBER, UNBIND_REQ_NUMBER, MGMT_LEAVE_REQ_NUMBER, reply_cluster}
 use Rattle.zdo_requests.specs.Requests.{bind_req_in, mgmt_leave_req_in}
 use Rattle.zdo_requests.specs.declared.descriptor.BindReq.{BindReq}
 use Rattle.zdo_requests.specs.declared.descriptor.MgmtLeaveReq.{MgmtLeaveReq}
-use Rattle.zdo_device.specs.Tables.{Pools, good_device}
+use Rattle.zdo_device.specs.Tables.{good_device}
 use Rattle.zdo_device.specs.declared.descriptor.DeviceDescriptorConfig.{DeviceDescriptorConfig}
 use Rattle.zdo_discovery.specs.Host.{Host, asking, good_host}
 use Rattle.zdo_discovery.specs.Discovery.{discovery, discovered}
