@@ -5,7 +5,7 @@ ghost use Rattle.std.specs.Prelude.{◌≤◌};
 
 use crate::{descriptors, print};
 use std::io;
-use zdo_device::descriptor::{DeviceDescriptorConfig, EndpointDescriptor, Side};
+use zdo_device::descriptor::{DeviceDescriptorConfig, EndpointDescriptor, Pools, Side};
 use zdo_device_rsp::descriptor::{active_ep_rsp, simple_desc_rsp};
 use zigbee_types::{Refusal, ShortAddress};
 
@@ -53,33 +53,32 @@ const AGAIN: EndpointDescriptor = EndpointDescriptor {
 #[derive(Clone, Copy)]
 pub(crate) struct Tables<'a> {
     pub(crate) device: DeviceDescriptorConfig,
-    pub(crate) inputs: &'a [u16],
-    pub(crate) outputs: &'a [u16],
+    pub(crate) pools: Pools<'a>,
 }
 
 impl<'a> Tables<'a> {
     // The same with another pool of inputs.
     pub(crate) fn with_inputs(self, inputs: &'a [u16]) -> Tables<'a> {
-        Tables { inputs, ..self }
+        let pools = Pools {
+            inputs,
+            ..self.pools
+        };
+        Tables { pools, ..self }
     }
 
     // The same with another pool of outputs.
     pub(crate) fn with_outputs(self, outputs: &'a [u16]) -> Tables<'a> {
-        Tables { outputs, ..self }
+        let pools = Pools {
+            outputs,
+            ..self.pools
+        };
+        Tables { pools, ..self }
     }
 
     // Writes the simple reply of an endpoint number.
     fn simple_reply(self, number: u8, out: &mut [u8]) -> Result<usize, Refusal> {
         let short = ShortAddress(0x1234);
-        simple_desc_rsp(
-            self.device,
-            7,
-            short,
-            number,
-            self.inputs,
-            self.outputs,
-            out,
-        )
+        simple_desc_rsp(self.device, 7, short, number, self.pools, out)
     }
 }
 
@@ -94,11 +93,11 @@ pub(crate) fn ours<'a>(count: usize) -> Tables<'a> {
         endpoints,
         endpoint_count: count,
     };
-    Tables {
-        device,
+    let pools = Pools {
         inputs: &INPUTS,
         outputs: &OUTPUTS,
-    }
+    };
+    Tables { device, pools }
 }
 
 // A device of one endpoint, which is our endpoint 1 but for its number of inputs.
@@ -156,11 +155,8 @@ pub(crate) fn print_endpoint<'a>(
     tables: Tables<'a>,
     number: u8,
 ) -> io::Result<()> {
-    let Tables {
-        device,
-        inputs,
-        outputs,
-    } = tables;
+    let Tables { device, pools } = tables;
+    let Pools { inputs, outputs } = pools;
     let supported = device.supports_endpoint(number) as u8;
     print!(rt; "{name} endpoint {number:02x} {supported}")?;
     print::or_none(rt, device.endpoint(number), |record| {

@@ -248,13 +248,9 @@ fn print_matching<'a>(
 ) -> io::Result<()>
     requires { room ≤ 71 }
 {
-    let Tables {
-        device,
-        inputs,
-        outputs,
-    } = tables;
+    let Tables { device, pools } = tables;
     print::in_room(rt, name, room, |out| {
-        let matching = matching_endpoints(device, inputs, outputs, request, payload, out);
+        let matching = matching_endpoints(device, pools, request, payload, out);
         matching.map(|matched| matched.written)
     })
 }

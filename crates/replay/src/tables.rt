@@ -7,7 +7,7 @@ use crate::{power, requests, words};
 use node_descriptor::descriptor::NodeDescriptorConfig;
 use std::io;
 use std::io::Write;
-use zdo_device::descriptor::{DeviceDescriptorConfig, EndpointDescriptor, Side};
+use zdo_device::descriptor::{DeviceDescriptorConfig, EndpointDescriptor, Pools, Side};
 use zdo_device_rsp::descriptor::{active_ep_rsp, simple_desc_rsp};
 use zdo_lent_records::descriptor::{lend_active_ep_rsp, lend_matching_endpoints};
 use zdo_match_req::descriptor::parse_match_desc_req;
@@ -20,8 +20,7 @@ const LENT: usize = 33;
 // Tables: the two pools, and the word that says the records.
 #[derive(Clone, Copy)]
 struct Tables<'a> {
-    inputs: &'a [u16],
-    outputs: &'a [u16],
+    pools: Pools<'a>,
     records: &'a [u8],
 }
 
@@ -51,9 +50,12 @@ fn tables_in<'a>(
 ) -> Tables<'a>
     requires { first ≤ 4 }
 {
-    Tables {
+    let pools = Pools {
         inputs: words::clusters_in(line, first, inputs),
         outputs: words::clusters_in(line, first + 1, outputs),
+    };
+    Tables {
+        pools,
         records: words::word_of(line, first + 2),
     }
 }
@@ -90,10 +92,15 @@ fn put_pools(
     tables: Tables<'_>,
     text: &mut Text,
 ) -> io::Result<()> {
-    let inputs = device.endpoint_clusters(Side::Input, number, tables.inputs, tables.outputs);
-    put_clusters(inputs, text)?;
-    let outputs = device.endpoint_clusters(Side::Output, number, tables.inputs, tables.outputs);
-    put_clusters(outputs, text)
+    let Pools { inputs, outputs } = tables.pools;
+    put_clusters(
+        device.endpoint_clusters(Side::Input, number, inputs, outputs),
+        text,
+    )?;
+    put_clusters(
+        device.endpoint_clusters(Side::Output, number, inputs, outputs),
+        text,
+    )
 }
 
 // Puts clusters after a space, or `-` where there are none.
@@ -110,9 +117,12 @@ fn put_clusters(clusters: &[u16], text: &mut Text) -> io::Result<()> {
 
 // Puts whether there is an endpoint: behind the question's name stand TABLES NUMBER.
 fn supports_endpoint(line: &[u8], text: &mut Text) -> io::Result<()> {
-    let tables = Tables {
+    let pools = Pools {
         inputs: &[],
         outputs: &[],
+    };
+    let tables = Tables {
+        pools,
         records: words::word_of(line, 3),
     };
     let number = words::u8_in(line, 4);
@@ -152,8 +162,7 @@ fn matching(line: &[u8], tables: Tables<'_>, buffer: &mut [u8]) -> Result<usize,
     let payload = words::bytes_in(line, 1, &mut space);
     let request = parse_match_desc_req(payload)?;
     let device = device_of(tables, 0xEE, request.profile_id);
-    let inputs = tables.inputs;
-    let matched = matching_endpoints(device, inputs, tables.outputs, request, payload, buffer)?;
+    let matched = matching_endpoints(device, tables.pools, request, payload, buffer)?;
     Ok(matched.written)
 }
 
@@ -165,8 +174,7 @@ fn lent_matching(line: &[u8], tables: Tables<'_>, buffer: &mut [u8]) -> Result<u
     let matched = lend_matching_endpoints(
         records_of(tables, 0xEE, request.profile_id),
         count_of(tables),
-        tables.inputs,
-        tables.outputs,
+        tables.pools,
         request,
         payload,
         buffer,
@@ -204,15 +212,7 @@ fn simple_desc(line: &[u8], tables: Tables<'_>, buffer: &mut [u8]) -> Result<usi
     let address = ShortAddress(words::u16_in(line, 2));
     let number = words::u8_in(line, 3);
     let device = device_of(tables, number, 0);
-    simple_desc_rsp(
-        device,
-        seq,
-        address,
-        number,
-        tables.inputs,
-        tables.outputs,
-        buffer,
-    )
+    simple_desc_rsp(device, seq, address, number, tables.pools, buffer)
 }
 
 // A record of this endpoint and profile that has the whole of both pools. It stands behind the records of the tables: no answer may go
@@ -224,9 +224,9 @@ fn unused_record(tables: Tables<'_>, endpoint: u8, profile_id: u16) -> EndpointD
         profile_id,
         device_id: 0,
         input_start: 0,
-        input_count: (tables.inputs.len() % 65536) as u16,
+        input_count: (tables.pools.inputs.len() % 65536) as u16,
         output_start: 0,
-        output_count: (tables.outputs.len() % 65536) as u16,
+        output_count: (tables.pools.outputs.len() % 65536) as u16,
     }
 }
 
