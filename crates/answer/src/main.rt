@@ -3,7 +3,7 @@
 // that whoever types a line sees its answer.
 #![tactic(auto)]
 
-ghost use Rattle.std.specs.Prelude.{◌+◌, ◌≤◌, ◌<◌, length, IfOk, OnErr};
+ghost use Rattle.std.specs.Prelude.{◌+◌, ◌≤◌, ◌<◌, ◌≡◌, length, IfOk, OnErr};
 
 use answer_lines::session::{LINE, Session, TEXT, Turn, line_buffer};
 use std::io;
@@ -12,44 +12,58 @@ use std::io::Read;
 // How many bytes the input's buffer has, and how many the answers' has.
 const CHUNK: usize = 65536;
 
-// Writes out what waits.
-fn write_out(rt: &impl Print, out: &[u8], end: usize) -> io::Result<()>
-    requires { end ≤ length out.now }
-{
-    rt.write_all(&out[..end])
-}
-
-// Writes out what waits where there is no room for the longest text behind it, and tells how much waits then. Only that write fails.
-fn make_room(rt: &impl Print, out: &[u8], end: usize) -> io::Result<usize>
-    requires { (end ≤ length out.now) × (262 ≤ length out.now) }
-    ensures room { IfOk result (λ waits. waits + 262 ≤ length out.now) }
-    ensures full { OnErr result (length out.now < end + 262) }
-{
-    if out.len() - end < TEXT {
-        write_out(rt, out, end)?;
-        return Ok(0);
-    }
-    Ok(end)
-}
-
-// A turn whose answer is written behind what waits; the length that it tells is that of all that waits then.
-fn answer_behind(
-    session: Session,
-    chunk: &[u8],
-    at: usize,
-    line: &mut [u8; LINE],
-    out: &mut [u8],
+// The answers that wait: those at the front of a buffer, up to a place.
+#[derive(Drop)]
+struct Waiting {
+    buffer: [u8; CHUNK],
     end: usize,
-) -> Turn
-    requires { (at < length chunk.now) × (end + 262 ≤ length out.old) }
-    ensures { (at < result.at) × (result.length ≤ length out.new) }
-{
-    let turn = session.next(chunk, at, line, &mut out[end..]);
-    let session = turn.session;
-    Turn {
-        session,
-        at: turn.at,
-        length: end + turn.length,
+    ghost within: { end ≤ length buffer },
+}
+
+impl Waiting {
+    // Writes out what waits, and then nothing waits. Where that fails, it still waits.
+    fn write_out(&mut self, rt: &impl Print) -> io::Result<()>
+        ensures buffer { self.new.buffer ≡ self.old.buffer }
+        ensures none { IfOk result (λ done. self.new.end ≡ 0) }
+        ensures still { OnErr result (self.new.end ≡ self.old.end) }
+    {
+        rt.write_all(&self.buffer[..self.end])?;
+        self.end = 0;
+        Ok(())
+    }
+
+    // Writes out what waits where there is no room for the longest text behind it. Only that write fails.
+    fn make_room(&mut self, rt: &impl Print) -> io::Result<()>
+        ensures buffer { self.new.buffer ≡ self.old.buffer }
+        ensures room { IfOk result (λ done. self.new.end + 262 ≤ length self.new.buffer) }
+        ensures full { OnErr result (length self.old.buffer < self.old.end + 262) }
+        ensures still { OnErr result (self.new.end ≡ self.old.end) }
+    {
+        if self.buffer.len() - self.end < TEXT {
+            self.write_out(rt)?;
+        }
+        Ok(())
+    }
+
+    // A turn whose answer is put behind what waits, and waits then too.
+    fn answer(&mut self, session: Session, chunk: &[u8], at: usize, line: &mut [u8; LINE]) -> Turn
+        requires { (at < length chunk.now) × (self.old.end + 262 ≤ length self.old.buffer) }
+        ensures { (at < result.at) × (self.new.end ≡ self.old.end + result.length) }
+    {
+        let turn = session.next(chunk, at, line, &mut self.buffer[self.end..]);
+        self.end += turn.length;
+        turn
+    }
+
+    // The end of the input: puts the answer to the last line, if it has a character, and how many entries the binding table holds, behind
+    // what waits, and writes that out. (Nothing waits before that, so the buffer has room for it.)
+    fn finish(&mut self, rt: &impl Print, session: Session, line: &[u8; LINE]) -> io::Result<()> {
+        let written = session.end(line, &mut self.buffer[self.end..]);
+        if let Ok(n) = written {
+            self.end += n;
+            self.write_out(rt)?;
+        }
+        Ok(())
     }
 }
 
@@ -60,32 +74,20 @@ fn answer_chunk(
     begun: Session,
     chunk: &[u8],
     line: &mut [u8; LINE],
-    out: &mut [u8],
+    waiting: &mut Waiting,
 ) -> io::Result<Session>
-    requires { 262 ≤ length out.old }
+    ensures { IfOk result (λ session. waiting.new.end ≡ 0) }
 {
     let mut session = begun;
     let mut at: usize = 0;
-    let mut end: usize = 0;
     while at < chunk.len() {
-        end = make_room(rt, out, end)?;
-        let turn = answer_behind(session, chunk, at, line, out, end);
+        waiting.make_room(rt)?;
+        let turn = waiting.answer(session, chunk, at, line);
         session = turn.session;
         at = turn.at;
-        end = turn.length;
     }
-    write_out(rt, out, end)?;
+    waiting.write_out(rt)?;
     Ok(session)
-}
-
-// The end of the input: answers the last line, if it has a character, and tells how many entries the binding table holds. (The buffer
-// has room for that.)
-fn finish(rt: &impl Print, session: Session, line: &[u8; LINE], out: &mut [u8]) -> io::Result<()> {
-    let written = session.end(line, out);
-    if let Ok(n) = written {
-        write_out(rt, out, n)?;
-    }
-    Ok(())
 }
 
 // Reads to the end of the input, chunk by chunk. A proved loop has to end, so this one has a number of reads that no input takes.
@@ -93,18 +95,16 @@ fn answer_all(
     rt: &(impl Input + Print),
     input: &mut [u8],
     line: &mut [u8; LINE],
-    out: &mut [u8],
-) -> io::Result<()>
-    requires { 262 ≤ length out.old }
-{
+    waiting: &mut Waiting,
+) -> io::Result<()> {
     let mut reader = rt.reader();
     let mut session = Session::new();
     for _ in 0..u64::MAX {
         let read = reader.read(input)?;
         if read == 0 {
-            return finish(rt, session, line, out);
+            return waiting.finish(rt, session, line);
         }
-        session = answer_chunk(rt, session, &input[..read], line, out)?;
+        session = answer_chunk(rt, session, &input[..read], line, waiting)?;
     }
     Ok(())
 }
@@ -112,7 +112,10 @@ fn answer_all(
 // The input, the answers that wait and the line that has begun have a buffer each.
 fn main(rt: HostRuntime) -> io::Result<()> {
     let mut input = [0u8; CHUNK];
-    let mut out = [0u8; CHUNK];
     let mut line = line_buffer();
-    answer_all(&rt, &mut input, &mut line, &mut out)
+    let mut waiting = Waiting {
+        buffer: [0u8; CHUNK],
+        end: 0,
+    };
+    answer_all(&rt, &mut input, &mut line, &mut waiting)
 }

@@ -142,7 +142,8 @@ fn answer_line(table: BindingTable, line: &[u8], out: &mut [u8]) -> Answered
 
 // ---- with the line feed
 
-// Puts a line feed behind a text that was written, and tells the place behind it. (The text had room.)
+// Puts a line feed behind a text that was written, and tells the place behind it. (The text had room. A `match`, since an `unwrap_or`
+// could not write the line feed.)
 fn end_line(written: Result<usize, Refusal>, out: &mut [u8]) -> usize
     requires { Inside (says written) out.old }
     ensures { Ends (says written) out.old (answer result) out.new }

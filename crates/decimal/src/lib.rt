@@ -9,7 +9,7 @@ ghost use Rattle.decimal.specs.Decimal.{decimal};
 
 use zigbee_types::Refusal;
 
-// How many digits a number has.
+// How many digits a number has. (Recursion on the quotient by ten is document 01's form of a number's digits, here and below.)
 #[tactic(auto, using(crate::proofs::Put::one_counted, crate::proofs::Put::more_fits, crate::proofs::Put::more_counted))]
 fn digit_count(n: u64) -> usize
     ensures { result ≡ length (decimal n) }

@@ -121,7 +121,8 @@ fn capital(n: u8) -> u8
     55 + n
 }
 
-// Puts the two digits of a byte at a place, the high one first, and tells the place behind them.
+// Puts the two digits of a byte at a place, the high one first, and tells the place behind them. (A place passed and returned is document
+// 01's form of `&mut offset`, here and below.)
 fn put_pair(out: &mut [u8], at: usize, byte: u8) -> usize
     requires { at + 2 ≤ length out.old }
     ensures { BytesPut (digits_of (byte ∷ [])) out.old at result out.new }
