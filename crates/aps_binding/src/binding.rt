@@ -20,6 +20,7 @@ pub struct Binding {
 }
 
 impl Binding {
+    // The two mode numbers are constants of the type, and the fields of the other mode are zero: document 01's form.
     // 16-bit group address, destination endpoint omitted (2.4.3.2.2).
     pub const GROUP: u8 = 0x01;
 
@@ -67,8 +68,8 @@ impl Binding {
     }
 }
 
-// Whether two entries are the same: in all six fields, as the Rust derives it. Written by hand for speed, since a search compares
-// entries: the field that tells the most of them apart comes first, and no test is a branch.
+// Whether two entries are the same: in all six fields, as the Rust derives it. (By hand, not by a derive: the field that tells the most
+// entries apart comes first, and the edits eq_without_group and eq_without_mode leave a field out, for which a derive has no line.)
 impl PartialEq for Binding {
     ghost eq = { same };
 

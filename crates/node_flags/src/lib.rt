@@ -1,6 +1,5 @@
 // The flags of the node descriptor's fields, and the stack revision in its server mask (001; 2.3.2.3).
-// Each kind has an `is_set` of one line, as in the Rust: a trait is no plainer, since an impl for each kind would name its flags and
-// the number of each, and end in the same line.
+// Each kind has an `is_set` of one line, as in the Rust: a trait is no plainer, since its impl for each kind would be that line again.
 #![tactic(auto)]
 
 ghost use Rattle.std.specs.Prelude.{◌≡◌};

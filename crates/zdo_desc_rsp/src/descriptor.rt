@@ -43,7 +43,7 @@ pub fn node_desc_rsp(
 }
 
 // Builds a Power_Desc_rsp (2.4.4.2.4): seq, status, NWKAddrOfInterest, power descriptor.
-// (One generic function for both is no plainer: its trait and two impls would be longer than these five lines.)
+// (One function for both is no plainer: it would take the descriptor's writer and say in its contract what that writes, in more lines.)
 pub fn power_desc_rsp(
     power: PowerDescriptorConfig,
     seq: u8,

@@ -19,7 +19,8 @@ pub struct Pools<'a> {
     pub outputs: &'a [u16],
 }
 
-// One application endpoint exposed by this device (2.3.2.5). Its clusters are a start and a count in each of two lent pools.
+// One application endpoint exposed by this device (2.3.2.5). Its clusters are a start and a count in each of two lent pools, which is
+// document 01's form.
 #[derive(Clone, Copy)]
 pub struct EndpointDescriptor {
     pub endpoint: u8,
@@ -55,7 +56,8 @@ impl EndpointDescriptor {
     }
 }
 
-// The descriptors this device advertises: of the records the first `endpoint_count` are in use. The pools are lent beside it.
+// The descriptors this device advertises: of the records the first `endpoint_count` are in use. The pools are lent beside it. (An array
+// with a count: document 01's form, with no heap.)
 #[derive(Clone, Copy)]
 pub struct DeviceDescriptorConfig {
     pub node: NodeDescriptorConfig,

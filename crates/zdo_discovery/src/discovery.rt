@@ -98,7 +98,8 @@ fn on_ieee_addr(
     addr_rsp_error(request.seq, error, unknown, asked, out)
 }
 
-// ---- descriptors and lists
+// ---- descriptors and lists. Each handler has the same steps over what it goes by. (One over them all would take two functions that
+// write to one buffer, and say in its contract what both write.)
 
 // Why a node does not answer for another short address, by its type. A reserved type is neither a router nor a coordinator.
 fn not_ours(node: NodeDescriptorConfig) -> DiscoveryError

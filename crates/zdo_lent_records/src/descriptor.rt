@@ -72,7 +72,7 @@ pub fn active_ep_rsp_lent(
     Ok(at)
 }
 
-// ---- a run that is lent from an array
+// ---- a run that is lent from an array, with a count beside it: for code that holds records by value (document 01's form, no heap)
 
 // Lends the first records of an array to matching (2.4.4.2.7.1.1): for those who hold them by value.
 pub fn lend_matching_endpoints(

@@ -66,8 +66,8 @@ impl NodeReply {
 
 // ---- power
 
-// A Power_Desc_rsp (2.4.4.2.4). (One generic reply for both is no plainer: a trait for the descriptor's reader, its two impls and a name
-// for either reply would be longer than this type.)
+// A Power_Desc_rsp (2.4.4.2.4). (One function for both replies is no plainer: it would take the descriptor's reader, say in its contract
+// what that reads, and be told it at each call, in more lines than these.)
 #[derive(Clone, Copy)]
 pub struct PowerReply {
     pub header: ReplyHeader,

@@ -146,7 +146,7 @@ pub struct MgmtLeaveReq {
     pub rejoin: bool,
 }
 
-// ---- addresses
+// ---- addresses. Each parser is the Rust's: its own fields, in their order.
 
 // Parses a NWK_addr_req (2.4.3.1.1): seq, IEEEAddress(8), RequestType(1). StartIndex is not read.
 pub fn parse_nwk_addr_req(asdu: &[u8]) -> Result<NwkAddrReq, Refusal>

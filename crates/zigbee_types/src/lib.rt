@@ -1,5 +1,4 @@
-// What every layer shares: addresses, the places of lists, what a writer answers, and refusals. (The Rust's crate of this name is
-// not shown. Of what stands here its users write `IeeeAddress`; the other names are added.)
+// What every layer shares: addresses, the places of lists, and refusals. (The Rust's crate of this name is not shown. Of what stands here its users write `IeeeAddress`; the other names are added.)
 #![tactic(auto)]
 
 ghost use Rattle.std.specs.Prelude.{◌≡◌};
