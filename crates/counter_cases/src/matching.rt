@@ -26,7 +26,7 @@ pub(crate) fn k7_k9(rt: &impl Print) -> io::Result<()> {
     two_inputs(rt)
 }
 
-// Requests for every profile, and for another than ours.
+// Requests for every profile, and for another than ours. (This and the three below are lists of cases.)
 fn profiles(rt: &impl Print) -> io::Result<()> {
     print_asked(
         rt,

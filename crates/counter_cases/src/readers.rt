@@ -183,7 +183,7 @@ fn print_node(rt: &impl Print, reply: &[u8]) -> io::Result<()> {
     })
 }
 
-// The header of a power reply, and its descriptor's fields.
+// The header of a power reply, and its descriptor's fields. (Each of these prints its own fields.)
 fn print_power(rt: &impl Print, reply: &[u8]) -> io::Result<()> {
     print::or_refusal(rt, PowerReply::try_read(reply), |power| {
         print_header(rt, power.header)?;

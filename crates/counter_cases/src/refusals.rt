@@ -46,7 +46,7 @@ fn unknown_clusters(rt: &impl Print) -> io::Result<()> {
     print_answer(rt, ours, ask(name, 0x0033, b"", 0))
 }
 
-// Refusal 3, and 5 with a byte more, which a leave never gets: the shortest payload of each request.
+// Refusal 3, and 5 with a byte more, which a leave never gets: the shortest payload of each request. (A list of cases, in two halves.)
 fn short_payloads(rt: &impl Print) -> io::Result<()> {
     shortest(rt, 0x0000, 10)?;
     shortest(rt, 0x0001, 4)?;

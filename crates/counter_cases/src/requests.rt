@@ -112,7 +112,7 @@ pub(crate) fn numbers(rt: &impl Print) -> io::Result<()> {
     )
 }
 
-// The clusters of the requests.
+// The clusters of the requests. (The two lists have nothing in common but their length.)
 fn request_clusters(rt: &impl Print) -> io::Result<()> {
     let clusters = [
         descriptor::NWK_ADDR_REQ,
@@ -159,7 +159,7 @@ fn three_lengths<P: Print, F: Fn(&P, &[u8]) -> io::Result<()>>(
     print::of_three_lengths(rt, name, print, asdu, asdu.len() - 1)
 }
 
-// The fields of a NWK_addr_req.
+// The fields of a NWK_addr_req. (Each of these prints its own fields, by one format.)
 fn print_nwk_addr(rt: &impl Print, asdu: &[u8]) -> io::Result<()> {
     print::or_refusal(rt, descriptor::parse_nwk_addr_req(asdu), |request| {
         print!(rt;

@@ -151,7 +151,7 @@ fn discovery_error(place: u8) -> DiscoveryError {
     }
 }
 
-// The status of a bind at a place of its enum.
+// The status of a bind at a place of its enum. (A reason by its place is how the input names it, here and in the two like it.)
 fn bind_status(place: u8) -> BindStatus {
     match place {
         0 => BindStatus::Success,

@@ -34,7 +34,7 @@ pub(crate) fn answer(line: &[u8], text: &mut Text) -> io::Result<()> {
     }
 }
 
-// Puts a request for a short address.
+// Puts a request for a short address. (Each of these puts its own fields, in its own order.)
 fn put_nwk_addr(request: NwkAddrReq, text: &mut Text) -> io::Result<()> {
     let address = request.ieee_addr.0;
     write!(

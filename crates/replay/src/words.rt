@@ -230,7 +230,8 @@ pub(crate) fn says(word: &[u8], bytes: &[u8]) -> bool {
         .all(|(digits, byte)| u8_at(digits, 0) == *byte)
 }
 
-// The byte of a word that stands behind so many others, two digits each. Where the word has none there, this is 0.
+// The byte of a word that stands behind so many others, two digits each. Where the word has none there, this is 0. (This and the next
+// are `number_at` with its width in the type.)
 pub(crate) fn u8_at(word: &[u8], at: usize) -> u8
     requires { at < 2 ^ 16 }
 {
