@@ -126,8 +126,8 @@ fn mgmt_leave_req(question: Words, answer: &str) -> Option<Vec<Part>> {
     parsed("mgmt_leave_req_in", question, answer, |_, a| {
         let seq = a.number(2)?;
         let device = match a.word()? {
-            "-" => "address.None".to_string(),
-            ieee => format!("address.Some {}", address(&terms::number(ieee, 16)?)),
+            "-" => "None".to_string(),
+            ieee => format!("Some {}", address(&terms::number(ieee, 16)?)),
         };
         let (children, rejoin) = (a.flag()?, a.flag()?);
         let fields = [
@@ -206,8 +206,8 @@ fn stack_revision(mut question: Words, answer: &str) -> Option<Vec<Part>> {
     Some(vec![part(
         format!("stack_revision_of {mask}"),
         match answer {
-            "-" => "none".to_owned(),
-            _ => format!("some {}", terms::number(answer, 2)?),
+            "-" => "None".to_owned(),
+            _ => format!("Some {}", terms::number(answer, 2)?),
         },
     )])
 }

@@ -100,13 +100,13 @@ fn endpoint(mut question: Words, answer: &str) -> Option<Vec<Part>> {
     question.end()?;
     let (pools, device) = (&tables.pools, tables.device(&number, ANY));
     let (record, inputs, outputs) = match answer {
-        "-" => ("none".to_string(), "-", "-"),
+        "-" => ("None".to_string(), "-", "-"),
         _ => {
             let mut answer = Words::of(answer);
             let (fields, inputs, outputs) = (answer.word()?, answer.word()?, answer.word()?);
             answer.end()?;
             (
-                format!("some {}", endpoint_of(fields, inputs, outputs)?),
+                format!("Some {}", endpoint_of(fields, inputs, outputs)?),
                 inputs,
                 outputs,
             )
