@@ -179,17 +179,17 @@ fn constants(question: Words, answer: &str) -> Option<Vec<Part>> {
 }
 
 /// A number of so many digits, or none, as a value of the enum in a module.
-fn option(module: &str, word: &str, digits: usize) -> Option<String> {
+fn option(word: &str, digits: usize) -> Option<String> {
     match word {
-        "-" => Some(format!("{module}.None")),
-        _ => Some(format!("({module}.Some {})", terms::number(word, digits)?)),
+        "-" => Some("None".to_owned()),
+        _ => Some(format!("(Some {})", terms::number(word, digits)?)),
     }
 }
 
 fn node_desc_rsp(question: Words, answer: &str) -> Option<Vec<Part>> {
     parsed("node_desc_rsp_in", question, answer, |_, a| {
         let (seq, status, short) = (a.number(2)?, a.number(2)?, address(&a.number(4)?));
-        let mask = option("mask", a.word()?, 4)?;
+        let mask = option(a.word()?, 4)?;
         let fields = [
             ("seq", &*seq),
             ("status", &status),
@@ -201,7 +201,7 @@ fn node_desc_rsp(question: Words, answer: &str) -> Option<Vec<Part>> {
 }
 
 fn stack_revision(mut question: Words, answer: &str) -> Option<Vec<Part>> {
-    let mask = option("mask", question.word()?, 4)?;
+    let mask = option(question.word()?, 4)?;
     question.end()?;
     Some(vec![part(
         format!("stack_revision_of {mask}"),
