@@ -7,7 +7,7 @@ ghost use Rattle.zdo_replies.specs.Codes.{discovery_code};
 ghost use Rattle.zdo_replies.specs.Replies.{list_rsp};
 ghost use Rattle.zdo_device.specs.Tables.{used, resolved_in};
 ghost use Rattle.zdo_device.specs.Checked.{pools_of};
-ghost use Rattle.zdo_matching.specs.Matching.{wanted, match_list, good_places};
+ghost use Rattle.zdo_matching.specs.Matching.{wanted, match_list};
 ghost use Rattle.zdo_discovery.specs.Hosted.{host_of};
 ghost use Rattle.zdo_discovery.specs.Discovery.{our_address, on_nwk_addr, on_ieee_addr, not_ours, on_node, on_power, on_simple, on_active, on_match, discovery};
 
@@ -24,11 +24,12 @@ use zdo_device_rsp::descriptor::{active_ep_rsp, simple_desc_rsp_checked};
 use zdo_match_req::descriptor::parse_match_desc_req;
 use zdo_match_rsp::descriptor::{match_desc_rsp, match_desc_rsp_error};
 use zdo_matching::descriptor::matching_endpoints_checked;
+use zdo_matching::sought::Sought;
 use zdo_replies::descriptor::DiscoveryError;
 use zdo_requests::descriptor::{
     ACTIVE_EP_REQ, ADDR_REQUEST_EXTENDED, ADDR_REQUEST_SINGLE, IEEE_ADDR_REQ, MATCH_DESC_REQ,
-    MatchDescReq, NODE_DESC_REQ, NWK_ADDR_REQ, POWER_DESC_REQ, SIMPLE_DESC_REQ,
-    parse_addr_of_interest_req, parse_ieee_addr_req, parse_nwk_addr_req, parse_simple_desc_req,
+    NODE_DESC_REQ, NWK_ADDR_REQ, POWER_DESC_REQ, SIMPLE_DESC_REQ, parse_addr_of_interest_req,
+    parse_ieee_addr_req, parse_nwk_addr_req, parse_simple_desc_req,
 };
 use zigbee_types::{IeeeAddress, Refusal, ShortAddress};
 
@@ -185,18 +186,13 @@ fn on_active(
 
 // Builds the Match_Desc_rsp to a request about us: the list is made in places of its own, of which there are enough, so it is
 // whole.
-fn matched_rsp(
-    tables: Tables,
-    request: MatchDescReq,
-    payload: &[u8],
-    out: &mut [u8],
-) -> Result<usize, Refusal>
-    requires { good_places request payload.now ≡ true }
-    ensures { Wrote (list_rsp request.seq request.nwk_addr_of_interest (match_list (wanted request payload.now) (resolved_in (pools_of tables.entry.pools) (used tables.entry.device.now)))) out.old (says result) out.new }
+fn matched_rsp(tables: Tables, sought: Sought, out: &mut [u8]) -> Result<usize, Refusal>
+    ensures { Wrote (list_rsp sought.entry.request.seq sought.entry.request.nwk_addr_of_interest (match_list (wanted sought.entry.request sought.entry.payload.now) (resolved_in (pools_of tables.entry.pools) (used tables.entry.device.now)))) out.old (says result) out.new }
 {
     let mut matches = [0u8; MATCHES];
-    let matched = matching_endpoints_checked(tables, request, payload, &mut matches);
+    let matched = matching_endpoints_checked(tables, sought, &mut matches);
     let written = matched.written;
+    let request = sought.request;
     let asked = request.nwk_addr_of_interest;
     match_desc_rsp(request.seq, asked, &matches[..written], out)
 }
@@ -212,7 +208,7 @@ fn on_match(
 {
     let request = parse_match_desc_req(payload)?;
     if request.nwk_addr_of_interest == nwk_addr {
-        return matched_rsp(tables, request, payload, out);
+        return matched_rsp(tables, Sought { request, payload }, out);
     }
     match_desc_rsp_error(request.seq, not_ours(tables.device.node), out)
 }

@@ -15,6 +15,7 @@ use Rattle.zdo_device.specs.declared.descriptor.EndpointDescriptor.{EndpointDesc
 use Rattle.zdo_matching.specs.Matching.{wanted, good_places, matched_in, matched_records}
 use Rattle.zdo_matching.specs.Answers.{matching_says}
 use Rattle.zdo_matching.specs.declared.descriptor.Matched.{Matched}
+use Rattle.zdo_matching.specs.declared.sought.Sought.{Sought}
 use Rattle.zdo_matching.proofs.Found.{Found, found_first, found_end, begun_refused}
 
 module _ (p : Pools) (records : List EndpointDescriptor) (q : MatchDescReq) (payload before : List ℕ) {t : Bool} (is : t ≡ good_records p records) where
@@ -23,21 +24,22 @@ module _ (p : Pools) (records : List EndpointDescriptor) (q : MatchDescReq) (pay
   unfolding matching_says mapped says matched_records
   run_bad bad = rw (said_no is bad) (begun_refused 1 before)
 
-  module _ (fine : not t ≡ false) {u : Bool} (places : u ≡ good_places q payload) where
+  module _ (fine : not t ≡ false) where
     -- refusal 3
-    pub run_past : not u ≡ true → Begun (matched_records p records q payload) before (matching_says (Err Malformed)) before
+    pub run_past : false ≡ good_places q payload → Begun (matched_records p records q payload) before (matching_says (Err Malformed)) before
     unfolding matching_says mapped says matched_records matched_in
-    run_past bad = rw (said_yes is fine, said_no places bad) (begun_refused 3 before)
+    run_past bad = rw (said_yes is fine, ← bad) (begun_refused 3 before)
 
     -- what is found
     pub run_found :
-        not u ≡ false
-        → {i : ℕ} (m : Matched) {after : List ℕ}
-        → Found (wanted q payload) p records i before m.written after
+        true ≡ good_places q payload
+        → (s : Sought) {i : ℕ} (m : Matched) {after : List ℕ}
+        → (s.request ≡ q) × (s.payload.now ≡ payload)
+        → Found (wanted s.request s.payload.now) p records i before m.written after
         → length records ≤ i
         → Begun (matched_records p records q payload) before (matching_says (Ok m)) after
     unfolding matching_says mapped says matched_records matched_in
-    run_found good m f all = rw (said_yes is fine, said_yes places good) (found_end f all)
+    run_found good s m same f all = rw (said_yes is fine, ← good) (found_end (rw (same.0, same.1) at f) all)
 
 -- good records all fit, so the loop may begin
 pub run_first :

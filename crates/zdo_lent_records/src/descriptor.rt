@@ -12,7 +12,8 @@ ghost use Rattle.zdo_device_rsp.specs.TableReplies.{active_records};
 use byte::Field;
 use zdo_device::descriptor::{EndpointDescriptor, Pools, good_sizes};
 use zdo_device_rsp::descriptor::begin_active_ep_rsp;
-use zdo_matching::descriptor::{Matched, good_places, match_record};
+use zdo_matching::descriptor::{Matched, match_record};
+use zdo_matching::sought::Sought;
 use zdo_requests::descriptor::MatchDescReq;
 use zigbee_types::{Refusal, ShortAddress};
 
@@ -45,12 +46,12 @@ pub fn matching_endpoints_lent(
     if !good_records(endpoints, lent) {
         return Err(Refusal::BadTables);
     }
-    if !good_places(request, payload) {
+    let Some(sought) = Sought::checked(request, payload) else {
         return Err(Refusal::Malformed);
-    }
+    };
     let mut matched = Matched { written: 0 };
     for ep in endpoints {
-        matched = match_record(matched, *ep, lent, request, payload, out);
+        matched = match_record(matched, *ep, lent, sought, out);
     }
     Ok(matched)
 }

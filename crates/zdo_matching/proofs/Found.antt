@@ -25,24 +25,21 @@ use Rattle.zdo_matching.specs.Matching.{Wanted, wanted, matches, match_list, goo
 use Rattle.zigbee_types.specs.Answers.{says}
 use Rattle.zdo_matching.specs.Answers.{matching_says}
 use Rattle.zdo_matching.specs.declared.descriptor.Matched.{Matched}
+use Rattle.zdo_matching.specs.declared.sought.Sought.{Sought}
 use Rattle.zdo_matching.proofs.Filled.{Filled, filled_none, filled_length, filled_within, filled_more, filled_begun, begun_filled, behind_none, behind_full, behind_one}
 
 -- ---- one record
 
 module _ (p : Pools) (e : EndpointDescriptor) (q : MatchDescReq) (payload before : List ℕ) (k : ℕ) (may : may_match p e q payload (length before) (answer k) ≡ true) where
-  checks : (leb k (length before) ≡ true) × (record_fits p e ≡ true) × (good_places q payload ≡ true)
+  checks : (leb k (length before) ≡ true) × (record_fits p e ≡ true)
   unfolding may_match
   checks =
-      let (front, places) = (and-eq-true_iff (leb k (length before) && record_fits p e) (good_places q payload)).0 may in
-      let (within, fits) = (and-eq-true_iff (leb k (length before)) (record_fits p e)).0 front in
-      (within, fits, places)
+      let (front, _) = (and-eq-true_iff (leb k (length before) && record_fits p e) (good_places q payload)).0 may in
+      (and-eq-true_iff (leb k (length before)) (record_fits p e)).0 front
 
   -- what a turn takes for granted
   pub may_fit : record_fits p e ≡ true
   may_fit = checks.1
-
-  pub may_read : good_places q payload ≡ true
-  may_read = checks.2
 
   may_stand : k ≤ length before
   may_stand = leb-true _ _ checks.0
@@ -138,18 +135,19 @@ module _ (p : Pools) (d : DeviceDescriptorConfig) (q : MatchDescReq) (payload be
   unfolding matching_says mapped says matching_endpoints
   refused_tables bad = rw (← bad) (begun_refused 1 before)
 
-  module _ (good : true ≡ good_device p d) {u : Bool} (places : u ≡ good_places q payload) where
+  module _ (good : true ≡ good_device p d) where
     -- refusal 3
-    pub refused_places : not u ≡ true → Begun (matching_endpoints p d q payload) before (matching_says (Err Malformed)) before
+    pub refused_places : false ≡ good_places q payload → Begun (matching_endpoints p d q payload) before (matching_says (Err Malformed)) before
     unfolding matching_says mapped says matching_endpoints matched_in
-    refused_places bad = rw (← good, said_no places bad) (begun_refused 3 before)
+    refused_places bad = rw (← good, ← bad) (begun_refused 3 before)
 
     -- otherwise what is found
     pub found_matched :
-        not u ≡ false
-        → (t : Tables) (m : Matched) {after : List ℕ}
+        true ≡ good_places q payload
+        → (t : Tables) (s : Sought) (m : Matched) {after : List ℕ}
         → (t.device.now ≡ d) × (pools_of t.pools ≡ p)
-        → Begun (answer (match_list (wanted q payload) (resolved_in (pools_of t.pools) (used t.device.now)))) before (answer m.written) after
+        → (s.request ≡ q) × (s.payload.now ≡ payload)
+        → Begun (answer (match_list (wanted s.request s.payload.now) (resolved_in (pools_of t.pools) (used t.device.now)))) before (answer m.written) after
         → Begun (matching_endpoints p d q payload) before (matching_says (Ok m)) after
     unfolding matching_says mapped says matching_endpoints matched_in
-    found_matched fine t m same h = rw (← good, said_yes places fine) (rw (same.0, same.1) at h)
+    found_matched fine t s m same is h = rw (← good, ← fine) (rw (same.0, same.1, is.0, is.1) at h)

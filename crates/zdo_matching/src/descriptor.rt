@@ -7,6 +7,7 @@ ghost use Rattle.zdo_device.specs.Checked.{pools_of};
 ghost use Rattle.zdo_matching.specs.Matching.{wanted, profile_matches, shared, matches, match_list, good_places, matching_endpoints, may_match, matched_with};
 ghost use Rattle.zdo_matching.specs.Answers.{matching_says};
 
+use crate::sought::Sought;
 use byte::Field;
 use zdo_device::descriptor::{DeviceDescriptorConfig, EndpointDescriptor, Pools, Side};
 use zdo_device::tables::Tables;
@@ -37,26 +38,20 @@ pub fn matching_endpoints(
     let Some(tables) = Tables::checked(&device, lent) else {
         return Err(Refusal::BadTables);
     };
-    if !good_places(request, payload) {
+    let Some(sought) = Sought::checked(request, payload) else {
         return Err(Refusal::Malformed);
-    }
-    Ok(matching_endpoints_checked(tables, request, payload, out))
+    };
+    Ok(matching_endpoints_checked(tables, sought, out))
 }
 
 // The same, of tables and lists that were checked.
-pub fn matching_endpoints_checked(
-    tables: Tables,
-    request: MatchDescReq,
-    payload: &[u8],
-    out: &mut [u8],
-) -> Matched
-    requires { good_places request payload.now ≡ true }
-    ensures { Begun (answer (match_list (wanted request payload.now) (resolved_in (pools_of tables.entry.pools) (used tables.entry.device.now)))) out.old (answer result.written) out.new }
+pub fn matching_endpoints_checked(tables: Tables, sought: Sought, out: &mut [u8]) -> Matched
+    ensures { Begun (answer (match_list (wanted sought.entry.request sought.entry.payload.now) (resolved_in (pools_of tables.entry.pools) (used tables.entry.device.now)))) out.old (answer result.written) out.new }
 {
     let device = tables.device;
     let mut matched = Matched { written: 0 };
     for ep in &device.endpoints[..device.endpoint_count] {
-        matched = match_record(matched, *ep, tables.pools, request, payload, out);
+        matched = match_record(matched, *ep, tables.pools, sought, out);
     }
     matched
 }
@@ -67,15 +62,14 @@ pub fn match_record(
     matched: Matched,
     ep: EndpointDescriptor,
     lent: Pools,
-    request: MatchDescReq,
-    payload: &[u8],
+    sought: Sought,
     out: &mut [u8],
 ) -> Matched
-    requires { may_match (pools_of lent) ep request payload.now (length out.old) (answer matched.written) ≡ true }
-    ensures { Begun (matched_with (wanted request payload.now) (endpoint_of (pools_of lent.entry) ep) out.old (answer matched.written)) out.old (answer result.written) out.new }
+    requires { may_match (pools_of lent) ep sought.request sought.payload.now (length out.old) (answer matched.written) ≡ true }
+    ensures { Begun (matched_with (wanted sought.entry.request sought.entry.payload.now) (endpoint_of (pools_of lent.entry) ep) out.old (answer matched.written)) out.old (answer result.written) out.new }
 {
     let written = matched.written;
-    if !record_matches(ep, lent, request, payload) {
+    if !record_matches(ep, lent, sought) {
         return matched;
     }
     if written >= out.len() {
@@ -88,16 +82,12 @@ pub fn match_record(
 }
 
 // Whether a record matches: its profile, and an input or an output that is asked for.
-fn record_matches(
-    ep: EndpointDescriptor,
-    lent: Pools,
-    request: MatchDescReq,
-    payload: &[u8],
-) -> bool
-    requires ep_value { record_fits (pools_of lent) ep ≡ true }
-    requires payload_value { good_places request payload.now ≡ true }
-    ensures { result ≡ matches (wanted request payload.now) (endpoint_of (pools_of lent.entry) ep) }
+fn record_matches(ep: EndpointDescriptor, lent: Pools, sought: Sought) -> bool
+    requires { record_fits (pools_of lent) ep ≡ true }
+    ensures { result ≡ matches (wanted sought.entry.request sought.entry.payload.now) (endpoint_of (pools_of lent.entry) ep) }
 {
+    let request = sought.request;
+    let payload = sought.payload;
     if !profile_matches(request.profile_id, ep.profile_id) {
         return false;
     }

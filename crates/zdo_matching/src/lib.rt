@@ -2,3 +2,4 @@
 #![tactic(auto)]
 
 pub mod descriptor;
+pub mod sought;

@@ -178,7 +178,7 @@ fn constants(question: Words, answer: &str) -> Option<Vec<Part>> {
     Some(parts)
 }
 
-/// A number of so many digits, or none, as a value of the enum in a module.
+/// A number of so many digits, or none.
 fn option(word: &str, digits: usize) -> Option<String> {
     match word {
         "-" => Some("None".to_owned()),

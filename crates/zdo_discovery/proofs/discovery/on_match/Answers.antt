@@ -8,9 +8,9 @@ use Rattle.zdo_discovery.proofs.discovery.on_match.Goals as goal
 
 ruleset laws = (rules, match_places, about_ours, about_other)
 
-pub matched_rsp-requires : goal.matched_rsp-requires
+pub invariant_of-matched_rsp : goal.invariant_of-matched_rsp
 unfolding on_match
-matched_rsp-requires c = search laws
+invariant_of-matched_rsp c = record { good = search laws }
 
 pub returns-then-eq : goal.returns-then-eq
 unfolding on_match

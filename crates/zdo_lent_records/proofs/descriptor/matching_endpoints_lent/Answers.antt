@@ -10,8 +10,8 @@ ruleset laws = (rules, said_yes, found_may, found_next, run_bad, run_past, run_f
 pub returns-then-not-good_records : goal.returns-then-not-good_records
 returns-then-not-good_records c = search laws
 
-pub returns-then-not-good_places : goal.returns-then-not-good_places
-returns-then-not-good_places c = search laws
+pub returns-in_default : goal.returns-in_default
+returns-in_default c = let bad = c.in_default.ensures.found in search laws
 
 pub loop-ep-init : goal.loop-ep-init
 loop-ep-init c = search laws
@@ -23,4 +23,4 @@ pub loop-ep-preserved : goal.loop-ep-preserved
 loop-ep-preserved c = search laws
 
 pub returns : goal.returns
-returns c = search laws
+returns c = let found = c.in-Some.ensures.found in let same = c.in-Some.ensures.same in search laws

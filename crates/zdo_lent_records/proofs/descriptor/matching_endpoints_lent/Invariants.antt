@@ -6,4 +6,4 @@ use Rattle.zdo_lent_records.proofs.descriptor.matching_endpoints_lent.Given as g
 
 abbrev pub invariant-loop-ep : goal.invariant-loop-ep
 invariant-loop-ep l =
-    Found (wanted l.request l.payload) (pools_of l.lent) l.endpoints l.ep-index l.initial.out l.matched.written l.out
+    Found (wanted l.sought.request l.sought.payload.now) (pools_of l.lent) l.endpoints l.ep-index l.initial.out l.matched.written l.out

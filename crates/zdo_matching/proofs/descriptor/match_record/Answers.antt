@@ -1,12 +1,12 @@
 -- `match_record` meets its contract, at each of its ways out. Assumes nothing.
 use borrow.Author.Rules.{rules}
-use Rattle.zdo_matching.proofs.Found.{may_fit, may_read, record_skip, record_full, record_more}
+use Rattle.zdo_matching.proofs.Found.{may_fit, record_skip, record_full, record_more}
 use Rattle.zdo_matching.proofs.descriptor.match_record.Goals as goal
 
-ruleset laws = (rules, may_fit, may_read, record_skip, record_full, record_more)
+ruleset laws = (rules, may_fit, record_skip, record_full, record_more)
 
-pub record_matches-requires-clause-ep_value : goal.record_matches-requires-clause-ep_value
-record_matches-requires-clause-ep_value c = search laws
+pub record_matches-requires : goal.record_matches-requires
+record_matches-requires c = search laws
 
 pub returns-then-not-record_matches : goal.returns-then-not-record_matches
 returns-then-not-record_matches c = search laws
@@ -16,6 +16,3 @@ returns c = search laws
 
 pub returns-then-written-out : goal.returns-then-written-out
 returns-then-written-out c = search laws
-
-pub record_matches-requires-clause-payload_value : goal.record_matches-requires-clause-payload_value
-record_matches-requires-clause-payload_value c = search laws

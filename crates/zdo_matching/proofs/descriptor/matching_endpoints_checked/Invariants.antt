@@ -7,4 +7,4 @@ use Rattle.zdo_matching.proofs.descriptor.matching_endpoints_checked.Given as go
 
 abbrev pub invariant-loop-ep : goal.invariant-loop-ep
 invariant-loop-ep l =
-    Found (wanted l.request l.payload) (pools_of l.tables.pools) l.ep-items l.ep-index l.initial.out l.matched.written l.out
+    Found (wanted l.sought.request l.sought.payload.now) (pools_of l.tables.pools) l.ep-items l.ep-index l.initial.out l.matched.written l.out
