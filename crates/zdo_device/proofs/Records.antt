@@ -1,6 +1,6 @@
 -- The records in use: what a search through them finds, and what a check of them says. Assumes nothing.
 use Rattle.std.specs.Prelude as std
-use Rattle.std.specs.Prelude.{Option, Some, None}
+use Rattle.std.specs.Prelude.{Option, Some}
 use Rattle.std.specs.List.{list_all}
 use Rattle.zdo_device.proofs.Chains.{same_find, same_all}
 use Prim.Native.Nat.{ℕ, ◌≤◌, min}

@@ -82,10 +82,6 @@ unfolding match_list resolved_in filter
 found_first w p records before fit = record { fit = fit; filled = filled_none before }
 
 module _ {w : Wanted} {p : Pools} {records : List EndpointDescriptor} {i k : ℕ} {before after : List ℕ} (f : Found w p records i before k after) where
-  -- the buffer is as long as it was
-  pub found_length : length after ≡ length before
-  found_length = filled_length f.filled
-
   -- of all of them
   pub found_end : length records ≤ i → Begun (answer (match_list w (resolved_in p records))) before (answer k) after
   found_end h = filled_begun (rw (take_all i records h) at f.filled)

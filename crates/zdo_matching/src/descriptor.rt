@@ -2,7 +2,7 @@
 ghost use Rattle.std.specs.Prelude.{◌≤◌, ◌≡◌, true, leb, length};
 ghost use Rattle.zigbee_types.specs.Outcome.{answer, Begun};
 ghost use Rattle.zigbee_types.specs.Layout.{behind, entries_at};
-ghost use Rattle.zdo_device.specs.Tables.{used, record_fits, good_device, endpoint_of, resolved_in};
+ghost use Rattle.zdo_device.specs.Tables.{used, record_fits, endpoint_of, resolved_in};
 ghost use Rattle.zdo_device.specs.Checked.{pools_of};
 ghost use Rattle.zdo_matching.specs.Matching.{wanted, profile_matches, shared, matches, match_list, good_places, matching_endpoints, may_match, matched_with};
 ghost use Rattle.zdo_matching.specs.Answers.{matching_says};
