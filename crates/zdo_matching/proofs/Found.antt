@@ -26,7 +26,7 @@ use Rattle.zigbee_types.specs.Answers.{says}
 use Rattle.zdo_matching.specs.Answers.{matching_says}
 use Rattle.zdo_matching.specs.declared.descriptor.Matched.{Matched}
 use Rattle.zdo_matching.specs.declared.sought.Sought.{Sought}
-use Rattle.zdo_matching.proofs.Filled.{Filled, filled_none, filled_length, filled_within, filled_more, filled_begun, begun_filled, behind_none, behind_full, behind_one}
+use Rattle.zdo_matching.proofs.Filled.{Filled, filled_none, filled_within, filled_more, filled_begun, begun_filled, behind_none, behind_full, behind_one}
 
 -- ---- one record
 
