@@ -9,8 +9,7 @@ use Rattle.zdo_discovery.proofs.discovery.on_match.Goals as goal
 ruleset laws = (rules, match_places, about_ours, about_other)
 
 pub invariant_of-matched_rsp : goal.invariant_of-matched_rsp
-unfolding on_match
-invariant_of-matched_rsp c = record { good = search laws }
+invariant_of-matched_rsp c = search laws
 
 pub returns-then-eq : goal.returns-then-eq
 unfolding on_match

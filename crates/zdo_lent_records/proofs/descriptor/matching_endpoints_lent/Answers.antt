@@ -1,11 +1,10 @@
 -- `matching_endpoints_lent` meets its contract. Assumes nothing.
 use Rattle.std.proofs.Common.{rules}
-use Rattle.zigbee_types.proofs.Scans.{said_yes}
 use Rattle.zdo_matching.proofs.Found.{found_may, found_next}
 use Rattle.zdo_lent_records.proofs.Finding.{run_bad, run_past, run_first, run_found}
 use Rattle.zdo_lent_records.proofs.descriptor.matching_endpoints_lent.Goals as goal
 
-ruleset laws = (rules, said_yes, found_may, found_next, run_bad, run_past, run_first, run_found)
+ruleset laws = (rules, found_may, found_next, run_bad, run_past, run_first, run_found)
 
 pub returns-then-not-good_records : goal.returns-then-not-good_records
 returns-then-not-good_records c = search laws
