@@ -1,9 +1,9 @@
 // A device with the two pools that its records point into, where they are good together (document 01, "Device tables and sizes").
 ghost use Rattle.std.specs.Prelude.{◌≡◌, true};
-ghost use Rattle.zdo_device.specs.Tables.{good_device};
+ghost use Rattle.zdo_device.specs.Tables.{record_fits, good_device, endpoint_of, clusters_of};
 ghost use Rattle.zdo_device.specs.Checked.{pools_of};
 
-use crate::descriptor::{DeviceDescriptorConfig, Pools};
+use crate::descriptor::{DeviceDescriptorConfig, EndpointDescriptor, Pools, Side};
 
 // Tables that were checked.
 #[derive(Clone, Copy)]
@@ -28,5 +28,23 @@ impl<'a> Tables<'a> {
             device,
             pools: lent,
         })
+    }
+}
+
+// A record with the pools that its two parts lie in.
+#[derive(Clone, Copy)]
+pub struct Record<'a> {
+    pub ep: EndpointDescriptor,
+    pub pools: Pools<'a>,
+    pub ghost fits: { record_fits (pools_of pools) ep ≡ true },
+}
+
+impl<'a> Record<'a> {
+    // The record's part of the pool of one side.
+    pub fn clusters(self, side: Side) -> &'a [u16]
+        ensures { result.now ≡ clusters_of side (endpoint_of (pools_of self.entry.pools) self.entry.ep) }
+    {
+        self.ep
+            .clusters(side, self.pools.inputs, self.pools.outputs)
     }
 }

@@ -1,18 +1,18 @@
 // Active and simple replies (000).
-ghost use Rattle.std.specs.Prelude.{◌≡◌, true, length};
+ghost use Rattle.std.specs.Prelude.{length};
 ghost use Rattle.zigbee_types.specs.Outcome.{Wrote};
 ghost use Rattle.zigbee_types.specs.Answers.{says};
 ghost use Rattle.simple_descriptor.specs.SimpleDescriptor.{simple_written};
 ghost use Rattle.zdo_replies.specs.Replies.{described_rsp};
-ghost use Rattle.zdo_device.specs.Tables.{record_fits, endpoint_of};
+ghost use Rattle.zdo_device.specs.Tables.{endpoint_of};
 ghost use Rattle.zdo_device.specs.Checked.{pools_of};
 ghost use Rattle.zdo_device_rsp.specs.TableReplies.{active_begun, active_ep_rsp, simple_rsp_of, simple_desc_rsp};
 
 use byte::Field;
 use simple_descriptor::descriptor::write;
 use zdo_desc_rsp::descriptor::{empty_rsp, write_header};
-use zdo_device::descriptor::{DeviceDescriptorConfig, EndpointDescriptor, Pools, Side};
-use zdo_device::tables::Tables;
+use zdo_device::descriptor::{DeviceDescriptorConfig, Pools, Side};
+use zdo_device::tables::{Record, Tables};
 use zdo_match_rsp::descriptor::list_rsp;
 use zdo_replies::descriptor::{STATUS_NOT_ACTIVE, STATUS_SUCCESS};
 use zigbee_types::{Refusal, ShortAddress};
@@ -85,36 +85,35 @@ pub fn simple_desc_rsp_checked(
 ) -> Result<usize, Refusal>
     ensures { Wrote (simple_rsp_of seq nwk_addr (pools_of tables.entry.pools) tables.entry.device.now endpoint) out.old (says result) out.new }
 {
+    let pools = tables.pools;
     let found = tables.device.endpoint(endpoint);
     match found {
-        Some(ep) => described_rsp(ep, seq, nwk_addr, tables.pools, out),
+        Some(ep) => described_rsp(Record { ep, pools }, seq, nwk_addr, out),
         None => empty_rsp(seq, STATUS_NOT_ACTIVE, nwk_addr, out),
     }
 }
 
 // Builds the Simple_Desc_rsp of a record. The longest descriptor that is written has 64 bytes.
 fn described_rsp(
-    ep: EndpointDescriptor,
+    row: Record,
     seq: u8,
     nwk_addr: ShortAddress,
-    lent: Pools,
     out: &mut [u8],
 ) -> Result<usize, Refusal>
-    requires { record_fits (pools_of lent) ep ≡ true }
-    ensures { Wrote (described_rsp seq nwk_addr (endpoint_of (pools_of lent.entry) ep)) out.old (says result) out.new }
+    ensures { Wrote (described_rsp seq nwk_addr (endpoint_of (pools_of row.entry.pools) row.entry.ep)) out.old (says result) out.new }
 {
     let mut desc = [0u8; 64];
-    let len = write_record(ep, lent, &mut desc)?;
+    let len = write_record(row, &mut desc)?;
     list_rsp(seq, nwk_addr, &desc[..len], out)
 }
 
 // Writes the simple descriptor of a record (2.3.2.5) at the front of a buffer: its fields, and its parts of the two pools.
-fn write_record(ep: EndpointDescriptor, lent: Pools, out: &mut [u8]) -> Result<usize, Refusal>
-    requires { record_fits (pools_of lent) ep ≡ true }
-    ensures { Wrote (simple_written (endpoint_of (pools_of lent.entry) ep)) out.old (says result) out.new }
+fn write_record(row: Record, out: &mut [u8]) -> Result<usize, Refusal>
+    ensures { Wrote (simple_written (endpoint_of (pools_of row.entry.pools) row.entry.ep)) out.old (says result) out.new }
 {
-    let input_clusters = ep.clusters(Side::Input, lent.inputs, lent.outputs);
-    let output_clusters = ep.clusters(Side::Output, lent.inputs, lent.outputs);
+    let ep = row.ep;
+    let input_clusters = row.clusters(Side::Input);
+    let output_clusters = row.clusters(Side::Output);
     write(
         ep.endpoint,
         ep.profile_id,

@@ -2,7 +2,7 @@
 ghost use Rattle.std.specs.Prelude.{◌≤◌, ◌≡◌, true, leb, length};
 ghost use Rattle.zigbee_types.specs.Outcome.{answer, Begun};
 ghost use Rattle.zigbee_types.specs.Layout.{behind, entries_at};
-ghost use Rattle.zdo_device.specs.Tables.{used, record_fits, endpoint_of, resolved_in};
+ghost use Rattle.zdo_device.specs.Tables.{used, endpoint_of, resolved_in};
 ghost use Rattle.zdo_device.specs.Checked.{pools_of};
 ghost use Rattle.zdo_matching.specs.Matching.{wanted, profile_matches, shared, matches, match_list, good_places, matching_endpoints, may_match, matched_with};
 ghost use Rattle.zdo_matching.specs.Answers.{matching_says};
@@ -10,7 +10,7 @@ ghost use Rattle.zdo_matching.specs.Answers.{matching_says};
 use crate::sought::Sought;
 use byte::Field;
 use zdo_device::descriptor::{DeviceDescriptorConfig, EndpointDescriptor, Pools, Side};
-use zdo_device::tables::Tables;
+use zdo_device::tables::{Record, Tables};
 use zdo_requests::descriptor::MatchDescReq;
 use zigbee_types::{Places, Refusal};
 
@@ -69,7 +69,7 @@ pub fn match_record(
     ensures { Begun (matched_with (wanted sought.entry.request sought.entry.payload.now) (endpoint_of (pools_of lent.entry) ep) out.old (answer matched.written)) out.old (answer result.written) out.new }
 {
     let written = matched.written;
-    if !record_matches(ep, lent, sought) {
+    if !record_matches(Record { ep, pools: lent }, sought) {
         return matched;
     }
     if written >= out.len() {
@@ -82,22 +82,21 @@ pub fn match_record(
 }
 
 // Whether a record matches: its profile, and an input or an output that is asked for.
-fn record_matches(ep: EndpointDescriptor, lent: Pools, sought: Sought) -> bool
-    requires { record_fits (pools_of lent) ep ≡ true }
-    ensures { result ≡ matches (wanted sought.entry.request sought.entry.payload.now) (endpoint_of (pools_of lent.entry) ep) }
+fn record_matches(row: Record, sought: Sought) -> bool
+    ensures { result ≡ matches (wanted sought.entry.request sought.entry.payload.now) (endpoint_of (pools_of row.entry.pools) row.entry.ep) }
 {
     let request = sought.request;
     let payload = sought.payload;
-    if !profile_matches(request.profile_id, ep.profile_id) {
+    if !profile_matches(request.profile_id, row.ep.profile_id) {
         return false;
     }
     let requested = request.input_clusters;
-    let own = ep.clusters(Side::Input, lent.inputs, lent.outputs);
+    let own = row.clusters(Side::Input);
     if shares(payload, requested, own) {
         return true;
     }
     let requested = request.output_clusters;
-    let own = ep.clusters(Side::Output, lent.inputs, lent.outputs);
+    let own = row.clusters(Side::Output);
     shares(payload, requested, own)
 }
 

@@ -6,8 +6,8 @@ use Rattle.zdo_device_rsp.proofs.descriptor.simple_desc_rsp_checked.Goals as goa
 
 ruleset laws = (rules, good_found, simple_found, simple_none)
 
-pub described_rsp-requires : goal.described_rsp-requires
-described_rsp-requires c = search laws
+pub invariant_of-described_rsp : goal.invariant_of-described_rsp
+invariant_of-described_rsp c = record { fits = search laws }
 
 pub returns-in-Some : goal.returns-in-Some
 returns-in-Some c = search laws

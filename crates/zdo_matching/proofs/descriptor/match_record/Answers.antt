@@ -5,8 +5,8 @@ use Rattle.zdo_matching.proofs.descriptor.match_record.Goals as goal
 
 ruleset laws = (rules, may_fit, record_skip, record_full, record_more)
 
-pub record_matches-requires : goal.record_matches-requires
-record_matches-requires c = search laws
+pub invariant_of-record_matches : goal.invariant_of-record_matches
+invariant_of-record_matches c = record { fits = search laws }
 
 pub returns-then-not-record_matches : goal.returns-then-not-record_matches
 returns-then-not-record_matches c = search laws
