@@ -57,7 +57,7 @@ pub(crate) struct Tables<'a> {
 }
 
 impl<'a> Tables<'a> {
-    // The same with another pool of inputs.
+    // The same with another pool of inputs. (This and the next name the pool that changes, and share nothing else.)
     pub(crate) fn with_inputs(self, inputs: &'a [u16]) -> Tables<'a> {
         let pools = Pools {
             inputs,

@@ -44,7 +44,7 @@ impl<'a> Record<'a> {
     pub fn clusters(self, side: Side) -> &'a [u16]
         ensures { result.now ≡ clusters_of side (endpoint_of (pools_of self.entry.pools) self.entry.ep) }
     {
-        self.ep
-            .clusters(side, self.pools.inputs, self.pools.outputs)
+        let pools = self.pools;
+        self.ep.clusters(side, pools.inputs, pools.outputs)
     }
 }
