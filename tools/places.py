@@ -80,14 +80,16 @@ def twins(folder):
 
 
 def requires(folder):
-    """facts that stand in the requires of three functions or more, by their first word"""
-    heads = defaultdict(list)
+    """clauses of requires that stand in three functions or more of one crate, or of the library, but for the names of their values"""
+    clauses = defaultdict(list)
     for place, body in functions(folder):
         for line in body:
-            m = re.match(r"requires(?: \w+)? \{ (?:\()?(\w+)", line)
-            if m and m[1] in ("good_device", "record_fits", "good_places", "good_table", "is_request", "may_match"):
-                heads[m[1]].append(f"{place}: {line}")
-    return [p for h in heads.values() if len(h) >= 3 for p in h]
+            m = re.match(r"requires(?: \w+)? \{ (.*) \}$", line)
+            if m and not re.search(r"IsAlwaysCallable|length|≤ [1-9]\)|behind", m[1]):
+                fact = re.sub(r"\b(inputs\.now|outputs\.now|lent|self|ep|row|device|request|payload\.now|sought\.\w+(\.now)?)\b", "x", m[1])
+                fact = re.sub(r"\(pools(_of)? x( x)?\)", "x", fact)
+                clauses[fact].append(f"{place}: {line}")
+    return [p for c in clauses.values() if len(c) >= 3 for p in c]
 
 
 POINTS = (

@@ -43,7 +43,8 @@ pub struct Session {
     pub splitter: Splitter,
 }
 
-// The session after a turn, the place in the chunk behind what was taken, and the length of what was written.
+// The session after a turn, the place in the chunk behind what was taken, and the length of what was written. (A length, here and below:
+// the buffer is the caller's.)
 #[derive(Clone, Copy)]
 pub struct Turn {
     pub session: Session,

@@ -101,7 +101,7 @@ fn k7_places(rt: &impl Print, lists: ClusterLists) -> io::Result<()> {
     print_places(rt, "places", b"\x09\x34\x12\x04\x01\x01\x02\x04\x00", lists)
 }
 
-// Two lists: the place and the count of either.
+// Two lists: the place and the count of either, as document 01's form has them.
 fn lists(
     input_start: usize,
     input_count: usize,
@@ -152,7 +152,7 @@ pub(crate) fn past_pools(rt: &impl Print) -> io::Result<()> {
     print_tables(rt, "difference 6, outputs", parts(4, 0, 2, 0), 4, 8)
 }
 
-// A device whose one record in use has these parts of our pools. Behind it stands a record far past them.
+// A device whose one record in use has these parts of our pools, each a start and a count. Behind it stands a record far past them.
 fn parts<'a>(
     input_start: u16,
     input_count: u16,

@@ -75,7 +75,8 @@ pub(crate) fn written(
     println!(rt; "{}", bytes(buffer))
 }
 
-// What a writer makes of a buffer of so many bytes, which held 0xEE before. Ends the line.
+// What a writer makes of a buffer of so many bytes, which held 0xEE before. Ends the line. (Whoever hands its room on asks for the same bound:
+// with a type for it, each call would make a struct of a number.)
 pub(crate) fn in_buffer<F: FnOnce(&mut [u8]) -> Result<usize, Refusal>>(
     rt: &impl Print,
     room: usize,
@@ -104,7 +105,7 @@ pub(crate) fn in_room<F: FnOnce(&mut [u8]) -> Result<usize, Refusal>>(
     in_buffer(rt, room, write)
 }
 
-// Lines for a buffer with two bytes to spare, for one of so many bytes, and for one of a byte less.
+// Lines for a buffer with two bytes to spare, for one of so many bytes, and for one of a byte less. (The length is of what is written there.)
 pub(crate) fn in_three_rooms<F: Fn(&mut [u8]) -> Result<usize, Refusal>>(
     rt: &impl Print,
     name: &str,

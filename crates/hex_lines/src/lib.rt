@@ -10,7 +10,7 @@ ghost use Rattle.hex_lines.specs.RequestLine.{is_request, cluster_in, request_in
 
 use zigbee_types::Refusal;
 
-// A request that was read: its cluster, and the length of its payload.
+// A request that was read: its cluster, and the length of its payload, which stands in the caller's buffer.
 #[derive(Clone, Copy)]
 pub struct ParsedRequest {
     pub cluster: u16,
@@ -22,7 +22,8 @@ const FRONT: usize = 5;
 
 // ---- reading
 
-// The value of a digit of either case, and 16 for any other character.
+// The value of a digit of either case, and 16 for any other character. (This and `capital` are the two tables of a digit, which the
+// definitions have too.)
 #[tactic(auto, using(crate::proofs::Digits::inside, crate::proofs::Digits::below, crate::proofs::Digits::above, crate::proofs::Digits::value_decimal, crate::proofs::Digits::value_capital, crate::proofs::Digits::value_small, crate::proofs::Digits::value_none))]
 fn digit_value(character: u8) -> u8
     ensures { result ≡ digit_value character }

@@ -52,6 +52,8 @@ impl NodePowerDescriptor {
         self.supports(current_power_source)
     }
 
+    // ---- an accessor for each field, under the Rust's names: each says its own
+
     // Sleep and power-saving mode (2.3.2.4.1).
     pub fn current_power_mode(self) -> CurrentPowerMode
         ensures { result ≡ (power_fields self).current_power_mode }

@@ -72,7 +72,7 @@ pub(crate) fn put_entry(entry: Binding, text: &mut Text) -> io::Result<()> {
     }
 }
 
-// Puts an entry to a group, or `?` where it has a device too.
+// Puts an entry to a group, or `?` where it has a device too. (A number of zero is asked for, here and below, not another address.)
 fn put_group(entry: Binding, text: &mut Text) -> io::Result<()> {
     if entry.dst_ieee.0 != 0 || entry.dst_endpoint != 0 {
         return text.unknown();

@@ -3,7 +3,8 @@
 use node_descriptor::LogicalType;
 use power_names::{CurrentPowerMode, CurrentPowerSourceLevel, PowerSource};
 
-// A kind of such values. (Not by the library's `bits` and `from_bits`, since these are asked about.)
+// A kind of such values. (Not by the library's `bits` and `from_bits`, since these are asked about; and no `From`, since the numbers are the
+// questions' own.)
 pub(crate) trait Named {
     // The value that a number stands for.
     fn of_number(number: u16) -> Self;

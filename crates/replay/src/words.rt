@@ -246,7 +246,7 @@ pub(crate) fn u16_at(word: &[u8], at: usize) -> u16
 }
 
 // The number of so many bytes of a word that stands behind so many others, the high byte first. Where the word does not have it, this
-// is 0.
+// is 0. (The bound of a place, here and in the two above, is of one number: each call gives a constant.)
 pub(crate) fn number_at(word: &[u8], at: usize, bytes: usize) -> u64
     requires { (at < 2 ^ 16) × (bytes ≤ 8) }
 {

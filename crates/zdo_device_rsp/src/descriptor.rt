@@ -36,7 +36,7 @@ pub fn active_ep_rsp(
 }
 
 // Begins an Active_EP_rsp (2.4.4.2.6) of so many endpoints: what stands before the list. A count above 32 is refused, and then a buffer too short
-// for the whole reply; nothing is written in either case.
+// for the whole reply; nothing is written in either case. (A count alone: those of a device and of a lent run stand in different places.)
 pub fn begin_active_ep_rsp(
     count: usize,
     seq: u8,

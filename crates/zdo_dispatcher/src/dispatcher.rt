@@ -44,10 +44,11 @@ pub struct Responded {
     pub response: Result<Response, Refusal>,
 }
 
-// A reply's cluster is the request's plus this (2.4.4).
+// A reply's cluster is the request's plus this (2.4.4): an offset of numbers that travel.
 const REPLY: u16 = 0x8000;
 
-// What is told of a reply to a request that came to `written`.
+// What is told of a reply to a request that came to `written`. (That the cluster is low is asked of one number here and in two functions
+// below: a type for it would be unwrapped wherever it is compared.)
 fn told(cluster: u16, written: Result<usize, Refusal>) -> Result<Response, Refusal>
     requires { (n : ℕ) → says written ≡ answer n → cluster < 2 ^ 15 }
     ensures { response_says result ≡ mapped (replied (reply_cluster cluster)) (says written) }
@@ -110,7 +111,8 @@ fn link_rsp(seq: u8, status: Result<(), BindingError>, out: &mut [u8]) -> Result
     }
 }
 
-// What a request comes to without the binding table: an answer, or an entry that is still to be bound or unbound.
+// What a request comes to without the binding table: an answer, or an entry that is still to be bound or unbound. (Two results: neither
+// is an error.)
 #[derive(Clone, Copy)]
 enum Taken {
     Answered(Response),

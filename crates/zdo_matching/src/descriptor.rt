@@ -14,7 +14,7 @@ use zdo_device::tables::{Record, Tables};
 use zdo_requests::descriptor::MatchDescReq;
 use zigbee_types::{Places, Refusal};
 
-// The profile that stands for every profile (2.4.4.2.7).
+// The profile that stands for every profile (2.4.4.2.7), under the Rust's name.
 const WILDCARD_PROFILE_ID: u16 = 0xFFFF;
 
 // What matching found: how many endpoint numbers were written.
@@ -107,7 +107,8 @@ fn profile_matches(profile_id: u16, own: u16) -> bool
     (profile_id == WILDCARD_PROFILE_ID) | (profile_id == own)
 }
 
-// Whether some requested cluster is among a record's own. The search stops at the first that both sides share.
+// Whether some requested cluster is among a record's own. The search stops at the first that both sides share. (Document 01's form: "nested
+// loops over requested and own clusters, left by a label".)
 fn shares(payload: &[u8], requested: Places, own: &[u16]) -> bool
     requires { behind 2 requested ≤ length payload.now }
     ensures { result ≡ shared (entries_at 2 payload.now requested) own.now }

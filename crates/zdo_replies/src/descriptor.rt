@@ -78,7 +78,7 @@ impl DiscoveryError {
     }
 }
 
-// Maps an NLME-LEAVE.confirm status onto the ZDP status enumeration (2.4.5), as Mgmt_Leave_rsp says it (2.4.4.4.5).
+// Maps an NLME-LEAVE.confirm status onto the ZDP status enumeration (2.4.5), as Mgmt_Leave_rsp says it (2.4.4.4.5). (The Rust's function.)
 pub fn leave_status(status: NlmeLeaveStatus) -> u8
     ensures { result ≡ leave_status status }
 {

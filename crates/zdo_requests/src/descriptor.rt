@@ -120,7 +120,7 @@ pub enum BindReqDestination {
 }
 
 impl BindReq {
-    // The entry that the request names. (Added: the Rust's files have none.)
+    // The entry that the request names. (Added: the Rust's files have none. A method and no `From`, as `stack_revision` is one.)
     pub fn binding(self) -> Binding
         ensures { result ≡ binding_of self }
     {
