@@ -19,7 +19,7 @@ use Rattle.node_descriptor.specs.NodeDescriptor.{node_widths, node_descriptor_in
 use Rattle.node_power_descriptor.specs.PowerDescriptor.{power_widths, power_descriptor_in, usable}
 use Rattle.node_power_descriptor.proofs.Usable.{usable_sources}
 use Rattle.simple_descriptor.specs.SimpleDescriptor.{simple_descriptor_in}
-use Rattle.zdo_readers.specs.Readers.{header_widths, header_in, descriptor_reply_in, node_with, node_without, node_reply_in, power_with, power_without, power_reply_in, node_desc_rsp_in, addr_widths, addr_reply_in, status_widths, status_reply_in}
+use Rattle.zdo_readers.specs.Readers.{header_widths, header_in, descriptor_reply_in, node_reply_in, power_reply_in, node_desc_rsp_in, addr_widths, addr_reply_in, status_widths, status_reply_in}
 use Rattle.zdo_readers.specs.declared.readers.ReplyHeader.{ReplyHeader}
 use Rattle.zdo_list_readers.specs.declared.readers.ListReply.{ListReply}
 use Rattle.zdo_list_readers.specs.ListReaders.{list_behind, list_reply_in, match_error_widths, match_reply_in_as, match_reply_in, simple_within, simple_reply_in}
@@ -179,11 +179,11 @@ module _ (len : ℕ) (f g : ℕ → ℕ) (same : (i : ℕ) → i < len → f i �
 module _ (reply : List ℕ) where
   -- a node or a power reply, by the bytes that its descriptor needs, and what else it is refused for
   refuse_described :
-      {D R : Type 0} (descriptorIn : List ℕ → Outcome D) (with : ReplyHeader → D → R) (without : ReplyHeader → R) (n : ℕ) (over : Bool)
+      {D : Type 0} (descriptorIn : List ℕ → Outcome D) (n : ℕ) (over : Bool)
       → refusal_of (descriptorIn (drop 4 reply)) ≡ malformed_if (shorter (drop 4 reply) n || over)
-      → refusal_of (descriptor_reply_in descriptorIn with without reply) ≡ malformed_if (shorter reply (cond (succeeds reply) (4 + n) 4) || (succeeds reply && over))
+      → refusal_of (descriptor_reply_in descriptorIn reply) ≡ malformed_if (shorter reply (cond (succeeds reply) (4 + n) 4) || (succeeds reply && over))
   unfolding descriptor_reply_in header_in parsed size header_widths fields_at
-  refuse_described descriptorIn with without n over h =
+  refuse_described descriptorIn n over h =
       rw (← shorter_where) (refuse_next 4 reply _ _ _ (λ _. rw byte_read (refuse_where (succeeds reply) _ _ _ (rw refuse_mapped h))))
 
   -- a list that is counted at byte 4, a byte for each entry, ends here
@@ -234,8 +234,8 @@ readers_refuse =
     record {
       header = λ reply. refuse_parsed header_widths _ reply;
       mask = λ reply. refuse_parsed header_widths _ reply;
-      node = λ reply. rw (and-false, or-false) at (refuse_described reply node_descriptor_in node_with node_without 13 false (rw or-false (refuse_node (drop 4 reply))));
-      power = λ reply. rw (get_or-drop, get_or-drop, usable_bits) at (refuse_described reply power_descriptor_in power_with power_without 2 _ (refuse_power (drop 4 reply)));
+      node = λ reply. rw (and-false, or-false) at (refuse_described reply node_descriptor_in 13 false (rw or-false (refuse_node (drop 4 reply))));
+      power = λ reply. rw (get_or-drop, get_or-drop, usable_bits) at (refuse_described reply power_descriptor_in 2 _ (refuse_power (drop 4 reply)));
       list = refuse_list;
       match = λ reply. rw byte_read (refuse_match reply (succeeds reply));
       simple = λ reply.

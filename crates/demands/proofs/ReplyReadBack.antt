@@ -36,9 +36,9 @@ use Rattle.zdo_device.specs.declared.descriptor.EndpointDescriptor.{EndpointDesc
 use Rattle.zdo_device.specs.declared.descriptor.DeviceDescriptorConfig.{DeviceDescriptorConfig}
 use Rattle.zdo_device_rsp.specs.TableReplies.{numbers, active_rsp_of, active_ep_rsp, simple_rsp_of, simple_desc_rsp}
 use Rattle.zdo_device_rsp.proofs.Described.{as_list}
-use Rattle.zdo_readers.specs.Readers.{header_widths, header_in, descriptor_reply_in, node_with, node_without, node_reply_in, node_desc_rsp_in, power_with, power_without, power_reply_in, associated_in, addr_widths, addr_reply_in, status_widths, status_reply_in}
+use Rattle.zdo_readers.specs.Readers.{header_widths, header_in, NodeReply, with_descriptor, without_descriptor, descriptor_reply_in, node_reply_in, node_desc_rsp_in, power_reply_in, associated_in, addr_widths, addr_reply_in, status_widths, status_reply_in}
 use Rattle.zdo_readers.specs.declared.readers.ReplyHeader.{ReplyHeader}
-use Rattle.zdo_readers.specs.declared.readers.NodeReply.{NodeReply}
+use Rattle.zdo_readers.specs.declared.readers.DescriptorReply.{DescriptorReply}
 use Rattle.zdo_list_readers.specs.ListReaders.{list_behind, list_reply_in, match_error_widths, match_reply_in_as, match_reply_in, shifted, shifted_fields, simple_within, simple_reply_in}
 use Rattle.demands.specs.ReplyReadBack.{ReadsAs, ReadsAloneAs, Failing, cut_header, some_node, node_said, node_read, power_said, power_read, list_said, list_read, found, failed, match_read, simple_said, simple_read, addr_read, bare, cut_addr, no_devices, cut_simple, RepliesReadBack}
 use Rattle.demands.specs.TwoReaders.{mask_of, rsp_of, in_brief}
@@ -73,15 +73,15 @@ header_back seq status a rest = parses header_widths _ (header seq status a) res
 
 -- a reader of a descriptor behind the header; and what its reply says, by the fields of the descriptor
 module _
-    {D C R : Type 0} (descriptorIn : List ℕ → Outcome D) (with : ReplyHeader → D → R) (without : ReplyHeader → R)
-    (fields : D → C) (said : R → ReplyHeader × Option C)
+    {D C : Type 0} (descriptorIn : List ℕ → Outcome D)
+    (fields : D → C) (said : DescriptorReply D → ReplyHeader × Option C)
     (seq : ℕ) (a : ShortAddress)
   where
     -- with SUCCESS, the fields that are read behind the header
     described_back :
         (fs : List Field) (rest : List ℕ)
-        → ((h : ReplyHeader) (d : D) → said (with h d) ≡ (h, Some (fields d)))
-        → mapped said (descriptor_reply_in descriptorIn with without (laid (header seq SUCCESS a ++ fs) ++ rest))
+        → ((h : ReplyHeader) (d : D) → said (with_descriptor h d) ≡ (h, Some (fields d)))
+        → mapped said (descriptor_reply_in descriptorIn (laid (header seq SUCCESS a ++ fs) ++ rest))
         ≡ mapped (λ c. (cut_header seq SUCCESS a, Some c)) (mapped fields (descriptorIn (laid fs ++ rest)))
     unfolding descriptor_reply_in and_then mapped cut_header
     described_back fs rest e =
@@ -91,7 +91,7 @@ module _
       where
         go :
             (o : Outcome D)
-            → mapped said (mapped (with (cut_header seq SUCCESS a)) o) ≡ mapped (λ c. (cut_header seq SUCCESS a, Some c)) (mapped fields o)
+            → mapped said (mapped (with_descriptor (cut_header seq SUCCESS a)) o) ≡ mapped (λ c. (cut_header seq SUCCESS a, Some c)) (mapped fields o)
         go (answer d) = ap answer (e (cut_header seq SUCCESS a) d)
         go (refusal n) = refl
 
@@ -99,7 +99,7 @@ module _
     error_back :
         (status : ℕ) (rest : List ℕ)
         → Failing status
-        → mapped said (descriptor_reply_in descriptorIn with without (laid (header seq status a) ++ rest)) ≡ answer (said (without (cut_header seq status a)))
+        → mapped said (descriptor_reply_in descriptorIn (laid (header seq status a) ++ rest)) ≡ answer (said (without_descriptor (cut_header seq status a)))
     unfolding descriptor_reply_in and_then mapped cut_header
     error_back status rest other = rw (header_back, ne_eqb _ _ other)
 
@@ -139,12 +139,12 @@ module _ (seq : ℕ) (a : ShortAddress) where
   unfolding node_desc_rsp node_reply_in mapped
   node_reply_back n =
       sent_back _ node_read _
-      (λ rest. rw (described_back node_descriptor_in node_with node_without node_fields node_said seq a (node_descriptor_of n) rest (λ h d. refl), node_back n rest))
+      (λ rest. rw (described_back node_descriptor_in node_fields node_said seq a (node_descriptor_of n) rest (λ h d. refl), node_back n rest))
 
   node_error_back : (status : ℕ) → Failing status → ReadsAs (descriptor_rsp_error seq status a) node_read (answer (cut_header seq status a, None))
   unfolding descriptor_rsp_error node_reply_in
   node_error_back status other =
-      sent_back _ node_read _ (λ rest. error_back node_descriptor_in node_with node_without node_fields node_said seq a status rest other)
+      sent_back _ node_read _ (λ rest. error_back node_descriptor_in node_fields node_said seq a status rest other)
 
   mask_back :
       (n : NodeDescriptorConfig)
@@ -163,12 +163,12 @@ module _ (seq : ℕ) (a : ShortAddress) where
   unfolding power_desc_rsp power_reply_in
   power_reply_back p =
       sent_back _ power_read _
-      (λ rest. rw (described_back power_descriptor_in power_with power_without power_fields power_said seq a (power_descriptor_of p) rest (λ h d. refl), power_back p rest, mapped_granted))
+      (λ rest. rw (described_back power_descriptor_in power_fields power_said seq a (power_descriptor_of p) rest (λ h d. refl), power_back p rest, mapped_granted))
 
   power_error_back : (status : ℕ) → Failing status → ReadsAs (descriptor_rsp_error seq status a) power_read (answer (cut_header seq status a, None))
   unfolding descriptor_rsp_error power_reply_in
   power_error_back status other =
-      sent_back _ power_read _ (λ rest. error_back power_descriptor_in power_with power_without power_fields power_said seq a status rest other)
+      sent_back _ power_read _ (λ rest. error_back power_descriptor_in power_fields power_said seq a status rest other)
 
 -- ---- lists
 

@@ -22,7 +22,7 @@ use Rattle.node_power_descriptor.specs.PowerDescriptor.{power_widths, power_desc
 use Rattle.simple_descriptor.specs.SimpleDescriptor.{simple_descriptor_in, simple_fields}
 use Rattle.zigbee_types.specs.Answers.{says}
 use Rattle.simple_descriptor.specs.declared.SimpleDescriptorFields.{SimpleDescriptorFields}
-use Rattle.zdo_readers.specs.Readers.{header_widths, header_in, descriptor_reply_in, node_with, node_without, node_reply_in, power_with, power_without, power_reply_in, status_widths, status_reply_in}
+use Rattle.zdo_readers.specs.Readers.{header_widths, header_in, with_descriptor, without_descriptor, descriptor_reply_in, node_reply_in, power_reply_in, status_widths, status_reply_in}
 use Rattle.zdo_readers.specs.declared.readers.ReplyHeader.{ReplyHeader}
 use Rattle.zdo_list_readers.specs.ListReaders.{list_behind, list_reply_in, match_error_widths, match_reply_in_as, match_reply_in, shifted, shifted_fields, simple_within, simple_reply_in}
 use Rattle.zdo_list_readers.specs.declared.readers.ListReply.{ListReply}
@@ -147,15 +147,15 @@ header_four reply e = parsed_long header_widths _ reply e
 
 -- a reply with a descriptor, by its reader
 described_more :
-    {D R : Type 0} (descriptorIn : List ℕ → Outcome D) (with : ReplyHeader → D → R) (without : ReplyHeader → R)
+    {D : Type 0} (descriptorIn : List ℕ → Outcome D)
     → IgnoresTrailing descriptorIn
-    → IgnoresTrailing (descriptor_reply_in descriptorIn with without)
+    → IgnoresTrailing (descriptor_reply_in descriptorIn)
 unfolding descriptor_reply_in
-described_more descriptorIn with without more =
+described_more descriptorIn more =
     then_more header_in _ header_more
     (λ reply rest h r came e.
     rw (drop-append-le 4 reply rest (header_four reply came))
-    (where_more (eqb h.status SUCCESS) _ (without h) (mapped_more (with h) descriptorIn more) (drop 4 reply) rest r e))
+    (where_more (eqb h.status SUCCESS) _ (without_descriptor h) (mapped_more (with_descriptor h) descriptorIn more) (drop 4 reply) rest r e))
 
 node_more : IgnoresTrailing node_descriptor_in
 unfolding node_descriptor_in
@@ -225,8 +225,8 @@ unfolding node_reply_in power_reply_in status_reply_in
 trailing_ignored =
     record {
       header = header_more;
-      node = described_more node_descriptor_in node_with node_without node_more;
-      power = described_more power_descriptor_in power_with power_without power_more;
+      node = described_more node_descriptor_in node_more;
+      power = described_more power_descriptor_in power_more;
       list = list_more;
       match = match_more;
       simple = simple_more;

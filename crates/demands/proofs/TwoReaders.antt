@@ -17,9 +17,8 @@ use Rattle.zigbee_types.specs.Statuses.{SUCCESS}
 use Rattle.zigbee_types.proofs.Fields.{number_at_drop}
 use Rattle.zigbee_types.proofs.Outcomes.{granted, mapped_granted, held, answered}
 use Rattle.node_descriptor.specs.NodeDescriptor.{node_widths, node_descriptor_in}
-use Rattle.zdo_readers.specs.Readers.{header_widths, header_in, descriptor_reply_in, node_with, node_without, node_reply_in, server_mask_in, node_desc_rsp_in, stack_revision_of}
+use Rattle.zdo_readers.specs.Readers.{header_widths, header_in, NodeReply, with_descriptor, without_descriptor, descriptor_reply_in, node_reply_in, server_mask_in, node_desc_rsp_in, stack_revision_of}
 use Rattle.zdo_readers.specs.declared.readers.ReplyHeader.{ReplyHeader}
-use Rattle.zdo_readers.specs.declared.readers.NodeReply.{NodeReply}
 use Rattle.demands.specs.TwoReaders.{mask_of, revision_of, rsp_of, in_brief, NodeReadersAgree, RevisionsAgree}
 use Rattle.node_descriptor.specs.declared.NodeDescriptor.{NodeDescriptor}
 
@@ -38,7 +37,7 @@ module _ (reply : List ℕ) where
     -- what was read behind a header, with SUCCESS or without, is what stands there
     brief :
         (b : Bool)
-        → cond b (mapped (node_with h) (node_descriptor_in (drop 4 reply))) (answer (node_without h)) ≡ answer r
+        → cond b (mapped (with_descriptor h) (node_descriptor_in (drop 4 reply))) (answer (without_descriptor h)) ≡ answer r
         → in_brief r ≡ rsp_of h (server_mask_in (b && leb 14 (length reply)) reply)
     unfolding in_brief server_mask_in node_descriptor_in parsed needing
     brief true e =

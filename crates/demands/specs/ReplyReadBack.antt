@@ -18,10 +18,8 @@ use Rattle.zdo_replies.specs.Replies.{node_desc_rsp, power_desc_rsp, descriptor_
 use Rattle.zdo_device.specs.Tables.{Pools, used, endpoint_record, endpoint_of}
 use Rattle.zdo_device.specs.declared.descriptor.DeviceDescriptorConfig.{DeviceDescriptorConfig}
 use Rattle.zdo_device_rsp.specs.TableReplies.{numbers, active_ep_rsp, simple_desc_rsp}
-use Rattle.zdo_readers.specs.Readers.{node_reply_in, node_desc_rsp_in, power_reply_in, addr_reply_in, status_reply_in}
+use Rattle.zdo_readers.specs.Readers.{NodeReply, PowerReply, node_reply_in, node_desc_rsp_in, power_reply_in, addr_reply_in, status_reply_in}
 use Rattle.zdo_readers.specs.declared.readers.ReplyHeader.{ReplyHeader}
-use Rattle.zdo_readers.specs.declared.readers.NodeReply.{NodeReply}
-use Rattle.zdo_readers.specs.declared.readers.PowerReply.{PowerReply}
 use Rattle.zdo_readers.specs.declared.readers.AddrReply.{AddrReply}
 use Rattle.zdo_readers.specs.declared.readers.StatusReply.{StatusReply}
 use Rattle.zdo_list_readers.specs.ListReaders.{list_reply_in, match_reply_in, simple_reply_in}

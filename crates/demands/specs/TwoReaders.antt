@@ -4,10 +4,9 @@ use Rattle.std.specs.Prelude.{ℕ, ◌≡◌, List, Option, Some, None}
 use Rattle.zigbee_types.specs.Outcome.{answer, mapped}
 use Rattle.node_flags.specs.Flags.{stack_revision}
 use Rattle.node_descriptor.specs.NodeDescriptor.{node_fields}
-use Rattle.zdo_readers.specs.Readers.{node_reply_in, node_desc_rsp_in, stack_revision_of}
+use Rattle.zdo_readers.specs.Readers.{NodeReply, node_reply_in, node_desc_rsp_in, stack_revision_of}
 use Rattle.zdo_readers.specs.declared.descriptor.NodeDescRsp.{NodeDescRsp}
 use Rattle.zdo_readers.specs.declared.readers.ReplyHeader.{ReplyHeader}
-use Rattle.zdo_readers.specs.declared.readers.NodeReply.{NodeReply}
 use Rattle.node_descriptor.specs.declared.NodeDescriptor.{NodeDescriptor}
 
 -- the server mask of a descriptor, where there is one

@@ -15,9 +15,10 @@ use Rattle.zigbee_types.specs.Statuses.{SUCCESS}
 use Rattle.zigbee_types.specs.declared.Refusal.{Refusal}
 use Rattle.zigbee_types.proofs.Outcomes.{granted}
 use Rattle.zigbee_types.proofs.Parts.{part_whole}
-use Rattle.zdo_readers.specs.Readers.{header_widths, header_in, descriptor_reply_in}
+use Rattle.zdo_readers.specs.Readers.{header_widths, header_in, with_descriptor, without_descriptor, descriptor_reply_in}
 use Rattle.zigbee_types.specs.Answers.{says}
 use Rattle.zdo_readers.specs.declared.readers.ReplyHeader.{ReplyHeader}
+use Rattle.zdo_readers.specs.declared.readers.DescriptorReply.{DescriptorReply}
 
 -- what the reader of the header said
 module _ (bytes : List ℕ) (h : ReplyHeader) (said : says (Ok h) ≡ header_in bytes) where
@@ -34,19 +35,19 @@ module _ (bytes : List ℕ) (h : ReplyHeader) (said : says (Ok h) ≡ header_in 
       let long = leb-true 4 (length bytes) held in
       omega arith
 
-  module _ {D R : Type 0} (descriptorIn : List ℕ → Outcome D) (with : ReplyHeader → D → R) (without : ReplyHeader → R) where
+  module _ {D : Type 0} (read_in : List ℕ → Outcome D) where
     -- with another status there is no descriptor
-    pub described_none : {r : R} → (h.status ≡ SUCCESS → ⊥) → r ≡ without h → answer r ≡ descriptor_reply_in descriptorIn with without bytes
+    pub described_none : {r : DescriptorReply D} → (h.status ≡ SUCCESS → ⊥) → r ≡ without_descriptor h → answer r ≡ descriptor_reply_in read_in bytes
     unfolding descriptor_reply_in
     described_none other is = headed _ (rw (ne_eqb _ _ other, is))
 
     -- with SUCCESS it is what is read from byte 4 on
     module _ (ok : h.status ≡ SUCCESS) where
       described :
-          {d : Outcome D} {told : Outcome R}
-          → d ≡ descriptorIn (take (length bytes - 4) (drop 4 bytes))
-          → told ≡ mapped (with h) d
-          → told ≡ descriptor_reply_in descriptorIn with without bytes
+          {d : Outcome D} {told : Outcome (DescriptorReply D)}
+          → d ≡ read_in (take (length bytes - 4) (drop 4 bytes))
+          → told ≡ mapped (with_descriptor h) d
+          → told ≡ descriptor_reply_in read_in bytes
       unfolding descriptor_reply_in
       described read t =
           let yes : eqb h.status SUCCESS ≡ true = rw ok in
@@ -54,11 +55,11 @@ module _ (bytes : List ℕ) (h : ReplyHeader) (said : says (Ok h) ≡ header_in 
 
       -- and where that is made a reply of, it is this one
       pub described_made :
-          (q : Result D Refusal) (r : Result R Refusal) (P : D → R → Type 0)
-          → says q ≡ descriptorIn (take (length bytes - 4) (drop 4 bytes))
-          → ((d : D) (x : R) → P d x → x ≡ with h d)
+          (q : Result D Refusal) (r : Result (DescriptorReply D) Refusal) (P : D → DescriptorReply D → Type 0)
+          → says q ≡ read_in (take (length bytes - 4) (drop 4 bytes))
+          → ((d : D) (x : DescriptorReply D) → P d x → x ≡ with_descriptor h d)
           → MatchResult q (λ d. IsOkAnd r (P d)) (λ e. r ≡ Err e)
-          → says r ≡ descriptor_reply_in descriptorIn with without bytes
+          → says r ≡ descriptor_reply_in read_in bytes
       unfolding says mapped
       described_made (Ok d) (Ok x) P read made p = described read (rw (made d x p))
       described_made (Ok d) (Err _) P read made p = absurd p

@@ -15,8 +15,7 @@ use Rattle.node_power_descriptor.specs.PowerDescriptor.{power_descriptor_in}
 use Rattle.node_power_descriptor.specs.declared.NodePowerDescriptor.{NodePowerDescriptor}
 use Rattle.zdo_readers.specs.declared.descriptor.NodeDescRsp.{NodeDescRsp}
 use Rattle.zdo_readers.specs.declared.readers.ReplyHeader.{ReplyHeader}
-use Rattle.zdo_readers.specs.declared.readers.NodeReply.{NodeReply}
-use Rattle.zdo_readers.specs.declared.readers.PowerReply.{PowerReply}
+use Rattle.zdo_readers.specs.declared.readers.DescriptorReply.{DescriptorReply}
 use Rattle.zdo_readers.specs.declared.readers.AddrReply.{AddrReply}
 use Rattle.zdo_readers.specs.declared.readers.Associated.{Associated}
 use Rattle.zdo_readers.specs.declared.readers.StatusReply.{StatusReply}
@@ -31,34 +30,35 @@ header_in = parsed header_widths (λ field. record { seq = field 0; status = fie
 
 -- ---- node and power
 
--- node and power replies: with SUCCESS a descriptor stands from byte 4 on, and may be refused; with another status there is none
-unfoldable pub descriptor_reply_in : {D R : Type 0} → (List ℕ → Outcome D) → (ReplyHeader → D → R) → (ReplyHeader → R) → List ℕ → Outcome R
-descriptor_reply_in descriptorIn with without reply =
-    and_then (header_in reply) (λ h. cond (eqb h.status SUCCESS) (mapped (with h) (descriptorIn (drop 4 reply))) (answer (without h)))
+-- a node reply, and a power reply
+abbrev pub NodeReply : Type 0
+NodeReply = DescriptorReply NodeDescriptor
 
--- a node reply with its descriptor
-abbrev pub node_with : ReplyHeader → NodeDescriptor → NodeReply
-node_with h d = record { header = h; descriptor = Some d }
+abbrev pub PowerReply : Type 0
+PowerReply = DescriptorReply NodePowerDescriptor
+
+-- a reply with its descriptor
+abbrev pub with_descriptor : {D : Type 0} → ReplyHeader → D → DescriptorReply D
+with_descriptor h d = record { header = h; descriptor = Some d }
 
 -- and without one
-abbrev pub node_without : ReplyHeader → NodeReply
-node_without h = record { header = h; descriptor = None }
+abbrev pub without_descriptor : {D : Type 0} → ReplyHeader → DescriptorReply D
+without_descriptor h = record { header = h; descriptor = None }
+
+-- node and power replies: with SUCCESS a descriptor stands from byte 4 on, and may be refused; with another status there is none
+unfoldable pub descriptor_reply_in : {D : Type 0} → (List ℕ → Outcome D) → List ℕ → Outcome (DescriptorReply D)
+descriptor_reply_in read_in reply =
+    and_then
+    (header_in reply)
+    (λ h. cond (eqb h.status SUCCESS) (mapped (with_descriptor h) (read_in (drop 4 reply))) (answer (without_descriptor h)))
 
 -- 2.4.4.2.3. (One of SUCCESS that has its header and no whole descriptor is refused like one without a header; `header_in` tells which.)
 unfoldable pub node_reply_in : List ℕ → Outcome NodeReply
-node_reply_in = descriptor_reply_in node_descriptor_in node_with node_without
-
--- a power reply with its descriptor
-abbrev pub power_with : ReplyHeader → NodePowerDescriptor → PowerReply
-power_with h d = record { header = h; descriptor = Some d }
-
--- and without one
-abbrev pub power_without : ReplyHeader → PowerReply
-power_without h = record { header = h; descriptor = None }
+node_reply_in = descriptor_reply_in node_descriptor_in
 
 -- 2.4.4.2.4
 unfoldable pub power_reply_in : List ℕ → Outcome PowerReply
-power_reply_in = descriptor_reply_in power_descriptor_in power_with power_without
+power_reply_in = descriptor_reply_in power_descriptor_in
 
 -- does a reply of this status go on, with SUCCESS and 14 bytes?
 abbrev pub goes_further : ℕ → List ℕ → Bool

@@ -1,8 +1,11 @@
 // Whole replies as they are read (added by design): what most of them begin with, node and power replies, address replies, and
 // those of bind, unbind and leave.
-ghost use Rattle.std.specs.Prelude.{◌≡◌};
+ghost use Rattle.std.specs.Prelude.{ℕ, List, ◌≡◌};
 ghost use Rattle.zigbee_types.specs.Answers.{says};
-ghost use Rattle.zdo_readers.specs.Readers.{header_in, goes_further, node_reply_in, power_reply_in, associated_in, addr_reply_in, status_reply_in};
+ghost use Rattle.zigbee_types.specs.Outcome.{Outcome};
+ghost use Rattle.node_descriptor.specs.NodeDescriptor.{node_descriptor_in};
+ghost use Rattle.node_power_descriptor.specs.PowerDescriptor.{power_descriptor_in};
+ghost use Rattle.zdo_readers.specs.Readers.{header_in, goes_further, descriptor_reply_in, associated_in, addr_reply_in, status_reply_in};
 
 use byte::Field;
 use node_descriptor::NodeDescriptor;
@@ -38,53 +41,57 @@ impl ReplyHeader {
     }
 }
 
-// ---- node
+// ---- node and power
 
-// A Node_Desc_rsp (2.4.4.2.3).
-#[derive(Clone, Copy)]
-pub struct NodeReply {
-    pub header: ReplyHeader,
-    pub descriptor: Option<NodeDescriptor>,
+// A descriptor that a reply carries behind its header, read at the front of bytes.
+pub trait Described: Copy {
+    ghost read_in: { List ℕ → Outcome Self };
+
+    fn try_read(bytes: &[u8]) -> Result<Self, Refusal>
+        ensures { says result ≡ read_in bytes.now };
 }
 
-impl NodeReply {
-    // Reads a Node_Desc_rsp (2.4.4.2.3): with SUCCESS the descriptor stands from byte 4 on, with another status there is none.
-    pub fn try_read(reply: &[u8]) -> Result<NodeReply, Refusal>
-        ensures { says result ≡ node_reply_in reply.now }
-    {
-        let header = ReplyHeader::try_read(reply)?;
-        if header.status != STATUS_SUCCESS {
-            let descriptor = None;
-            return Ok(NodeReply { header, descriptor });
-        }
-        NodeDescriptor::try_read(&reply[4..]).map(|d| NodeReply {
-            header,
-            descriptor: Some(d),
-        })
+impl Described for NodeDescriptor {
+    ghost read_in = { node_descriptor_in };
+
+    fn try_read(bytes: &[u8]) -> Result<NodeDescriptor, Refusal> {
+        NodeDescriptor::try_read(bytes)
     }
 }
 
-// ---- power
+impl Described for NodePowerDescriptor {
+    ghost read_in = { power_descriptor_in };
 
-// A Power_Desc_rsp (2.4.4.2.4). (One function for both replies is no plainer: it would take the descriptor's reader, say in its contract
-// what that reads, and be told it at each call, in more lines than these.)
-#[derive(Clone, Copy)]
-pub struct PowerReply {
-    pub header: ReplyHeader,
-    pub descriptor: Option<NodePowerDescriptor>,
+    fn try_read(bytes: &[u8]) -> Result<NodePowerDescriptor, Refusal> {
+        NodePowerDescriptor::try_read(bytes)
+    }
 }
 
-impl PowerReply {
-    // Reads a Power_Desc_rsp (2.4.4.2.4): with SUCCESS the descriptor stands from byte 4 on, with another status there is none.
-    pub fn try_read(reply: &[u8]) -> Result<PowerReply, Refusal>
-        ensures { says result ≡ power_reply_in reply.now }
+// A reply with a descriptor, or with a status alone.
+#[derive(Clone, Copy)]
+pub struct DescriptorReply<D> {
+    pub header: ReplyHeader,
+    pub descriptor: Option<D>,
+}
+
+// A Node_Desc_rsp (2.4.4.2.3).
+pub type NodeReply = DescriptorReply<NodeDescriptor>;
+
+// A Power_Desc_rsp (2.4.4.2.4).
+pub type PowerReply = DescriptorReply<NodePowerDescriptor>;
+
+impl<D: Described> DescriptorReply<D> {
+    // Reads a Node_Desc_rsp (2.4.4.2.3) or a Power_Desc_rsp (2.4.4.2.4): with SUCCESS the descriptor stands from byte 4 on, with another
+    // status there is none.
+    pub fn try_read(reply: &[u8]) -> Result<DescriptorReply<D>, Refusal>
+        ensures { says result ≡ descriptor_reply_in D.read_in reply.now }
     {
         let header = ReplyHeader::try_read(reply)?;
         if header.status != STATUS_SUCCESS {
             let descriptor = None;
-            return Ok(PowerReply { header, descriptor });
+            return Ok(DescriptorReply { header, descriptor });
         }
-        NodePowerDescriptor::try_read(&reply[4..]).map(|d| PowerReply {
+        D::try_read(&reply[4..]).map(|d| DescriptorReply {
             header,
             descriptor: Some(d),
         })
