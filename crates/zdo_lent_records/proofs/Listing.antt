@@ -17,12 +17,13 @@ use Rattle.zdo_device_rsp.proofs.Active.{begun_room, begun_refused, Listed, list
 module _ (seq : ℕ) (a : ShortAddress) (records : List EndpointDescriptor) {before after : List ℕ} where
   -- refused as the beginning is
   pub run_refused :
-      (r : Result ℕ Refusal) (why : Refusal)
-      → Wrote (active_begun seq a (length records) (length before)) before (says (Err why)) after
+      (r : Result ℕ Refusal) (why : Refusal) {n : ℕ}
+      → n ≡ length records
+      → Wrote (active_begun seq a n (length before)) before (says (Err why)) after
       → IsErr r × IsErrAnd r (λ e. e ≡ why)
       → Wrote (active_records seq a records) before (says r) after
   unfolding active_records says
-  run_refused r why w is = rw (passed r why is) (begun_refused seq a (length records) before records (λ few. refl) w)
+  run_refused r why as_many w is = rw (passed r why is) (begun_refused seq a (length records) before records (λ few. refl) (rw as_many at w))
 
   module _ {from : ℕ} (w : Wrote (active_begun seq a (length records) (length before)) before (says (Ok from)) after) where
     -- of none, behind the beginning
