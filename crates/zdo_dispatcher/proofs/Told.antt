@@ -1,7 +1,7 @@
 -- What is told of a reply that a writer came to, and what a refusal leaves. Assumes nothing.
 use Rattle.std.specs.Prelude.{Result, Ok, Err}
 use Rattle.std.specs.Result.{IsErr, IsErrAnd}
-use Prim.Native.Nat.{ℕ, ◌+◌, ◌^◌, ◌<◌}
+use Prim.Native.Nat.{ℕ, ◌+◌, ◌^◌, ◌<◌, ◌≤◌}
 use native.Mathlib.Omega.{arith}
 use mathlib.Core.Path.{◌≡◌, refl}
 use mathlib.Core.List.{List}
@@ -21,10 +21,10 @@ use Rattle.zdo_dispatcher.specs.declared.dispatcher.Response.TheVariants as resp
 -- ---- by the writer's answer
 
 module _ (cluster : ℕ) (w : Result ℕ Refusal) where
-  -- the cluster of a reply is a number of two bytes
-  pub cluster_fits : {n : ℕ} → ((k : ℕ) → says w ≡ answer k → cluster < 2 ^ 15) → w ≡ Ok n → Fits w16 (cluster + 0x8000)
+  -- the cluster of a reply is a number of two bytes, with any offset up to that of a reply
+  pub cluster_fits : {n : ℕ} (offset : ℕ) → offset ≤ 0x8000 → ((k : ℕ) → says w ≡ answer k → cluster < 2 ^ 15) → w ≡ Ok n → Fits w16 (cluster + offset)
   unfolding says
-  cluster_fits {n} small e = let low = small n (rw e) in record { fits = omega arith }
+  cluster_fits {n} offset few small e = let low = small n (rw e) in record { fits = omega arith }
 
   pub told_length : {n : ℕ} → w ≡ Ok n → response_says (Ok (response.Reply (cluster + 0x8000) n)) ≡ mapped (replied (reply_cluster cluster)) (says w)
   unfolding says response_says mapped

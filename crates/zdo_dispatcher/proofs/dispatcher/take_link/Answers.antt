@@ -28,4 +28,4 @@ returns c =
     c.code.ensures
     c.if-code-ne-STATUS_SUCCESS.false
     (search rules)
-    c.if-out-lt2.false
+    (omega arith)
