@@ -5,7 +5,7 @@ ghost use Rattle.zigbee_types.specs.Answers.{says};
 ghost use Rattle.zigbee_types.specs.Outcome.{Outcome};
 ghost use Rattle.node_descriptor.specs.NodeDescriptor.{node_descriptor_in};
 ghost use Rattle.node_power_descriptor.specs.PowerDescriptor.{power_descriptor_in};
-ghost use Rattle.zdo_readers.specs.Readers.{header_in, goes_further, descriptor_reply_in, associated_in, addr_reply_in, status_reply_in};
+ghost use Rattle.zdo_readers.specs.Readers.{header_in, goes_further, descriptor_reply_in, node_reply_in, power_reply_in, associated_in, addr_reply_in, status_reply_in};
 
 use byte::Field;
 use node_descriptor::NodeDescriptor;
@@ -81,9 +81,9 @@ pub type NodeReply = DescriptorReply<NodeDescriptor>;
 pub type PowerReply = DescriptorReply<NodePowerDescriptor>;
 
 impl<D: Described> DescriptorReply<D> {
-    // Reads a Node_Desc_rsp (2.4.4.2.3) or a Power_Desc_rsp (2.4.4.2.4): with SUCCESS the descriptor stands from byte 4 on, with another
-    // status there is none.
-    pub fn try_read(reply: &[u8]) -> Result<DescriptorReply<D>, Refusal>
+    // Reads a reply with a descriptor: with SUCCESS it stands from byte 4 on, with another status there is none. `NodeReply::try_read` and
+    // `PowerReply::try_read` are this at their descriptors.
+    pub fn try_read_described(reply: &[u8]) -> Result<DescriptorReply<D>, Refusal>
         ensures { says result ≡ descriptor_reply_in D.read_in reply.now }
     {
         let header = ReplyHeader::try_read(reply)?;
@@ -95,6 +95,26 @@ impl<D: Described> DescriptorReply<D> {
             header,
             descriptor: Some(d),
         })
+    }
+}
+
+impl NodeReply {
+    // Reads a Node_Desc_rsp (2.4.4.2.3): with SUCCESS the descriptor stands from byte 4 on, with another status there is none.
+    #[tactic(auto, unfolding(crate::specs::Readers::node_reply_in))]
+    pub fn try_read(reply: &[u8]) -> Result<NodeReply, Refusal>
+        ensures { says result ≡ node_reply_in reply.now }
+    {
+        NodeReply::try_read_described(reply)
+    }
+}
+
+impl PowerReply {
+    // Reads a Power_Desc_rsp (2.4.4.2.4): with SUCCESS the descriptor stands from byte 4 on, with another status there is none.
+    #[tactic(auto, unfolding(crate::specs::Readers::power_reply_in))]
+    pub fn try_read(reply: &[u8]) -> Result<PowerReply, Refusal>
+        ensures { says result ≡ power_reply_in reply.now }
+    {
+        PowerReply::try_read_described(reply)
     }
 }
 

@@ -1,4 +1,4 @@
--- `DescriptorReply::try_read` meets its contract: the header, and what follows by its status. Assumes nothing.
+-- `DescriptorReply::try_read_described` meets its contract: the header, and what follows by its status. Assumes nothing.
 use borrow.Author.Rules.{rules}
 use mathlib.Core.Path.{refl}
 use Rattle.std.proofs.iter.Serving.{serving}
@@ -6,7 +6,7 @@ use Rattle.zigbee_types.proofs.Passed.{passed_then}
 use Rattle.zdo_readers.proofs.Headed.{header_long, described_none, described_made}
 use Rattle.zdo_readers.specs.Readers.{descriptor_reply_in}
 use Rattle.zigbee_types.specs.Answers.{says}
-use Rattle.zdo_readers.proofs.readers.DescriptorReply.try_read.Goals as goal
+use Rattle.zdo_readers.proofs.readers.DescriptorReply.try_read_described.Goals as goal
 
 ruleset laws = (rules, header_long)
 
