@@ -57,6 +57,11 @@ module _ (n : ℕ) (small : n < 2 ^ 64) (d : Result ℕ Refusal) {before middle 
     unfolding count_text
     count_written = both_written BINDINGS (decimal n) word both p (rw long told_digits)
 
+  -- the digits are not refused
+  pub count_refused : {why : Refusal} → d ≡ Err why → Wrote (answer (count_text n)) before (answer 9) (put_mid 9 (length middle - 9) middle v)
+  unfolding count_text says
+  count_refused is = absurd (refused (rw is at told_digits))
+
 -- ---- its line feed
 
 module _ (count : ℕ) (small : count < 2 ^ 64) where

@@ -2,23 +2,60 @@
 use Rattle.std.specs.Prelude.{Result, Ok, Err}
 use Prim.Native.Nat.{ℕ, ◌≤◌}
 use native.Mathlib.Omega.{arith}
-use mathlib.Core.Path.{◌≡◌, refl}
+use mathlib.Core.Path.{◌≡◌, refl, sym}
 use mathlib.Core.List.{List}
-use lib.ListN.{length, drop, length-append, length-take}
-use lib.Seq.{take_at}
+use lib.ListN.{length, take, drop, length-append, length-take}
+use lib.Seq.{take_at, length-take-le}
 use Rattle.zigbee_types.specs.Outcome.{Outcome, answer, refusal, mapped, written, Wrote}
 use Rattle.zigbee_types.specs.Refusals.{refusal_number}
 use Rattle.zigbee_types.specs.declared.Refusal.{Refusal}
 use Rattle.aps_binding_table.specs.declared.binding.BindingTable.{BindingTable}
+use Rattle.zdo_requests.specs.declared.descriptor.MgmtLeaveReq.{MgmtLeaveReq}
 use Rattle.zdo_discovery.specs.Host.{asking}
 use Rattle.zdo_dispatcher.specs.Answers.{Answer, reply, leave, replied, told_of, buffer_after, response_says, answered, Dispatched}
 use Rattle.zdo_dispatcher.specs.declared.dispatcher.Response.{Response}
 use Rattle.zdo_dispatcher.specs.declared.dispatcher.Response.TheVariants as response
+use Rattle.hex_lines.specs.RequestLine.{hex_line}
 use Rattle.hex_lines.proofs.Line.{length_line}
 use Rattle.decimal.proofs.Digits.{decimal_one}
 use Rattle.our_device.specs.OurDevice.{ours}
-use Rattle.answer_lines.specs.Session.{text_of, heard, response_text, Tells}
+use Rattle.answer_lines.specs.Session.{LEAVE, refusal_text, text_of, heard, response_text, Tells}
 use Rattle.answer_lines.proofs.Texts.{one_digit}
+
+-- ---- what was answered, as text
+
+module _ (r : Result Response Refusal) (buffer : List ℕ) {before after : List ℕ} {told : Outcome ℕ} where
+  -- a reply: its cluster, and its bytes at the front of the buffer
+  pub text_reply :
+      {cluster n : ℕ}
+      → r ≡ Ok (response.Reply cluster n)
+      → Wrote (answer (hex_line cluster (take n buffer))) before told after
+      → Wrote (answer (response_text r buffer)) before told after
+  unfolding response_text
+  text_reply is w = rw is w
+
+  -- a leave: its word
+  pub text_leave :
+      {q : MgmtLeaveReq} → r ≡ Ok (response.Leave q) → Wrote (answer LEAVE) before told after → Wrote (answer (response_text r buffer)) before told after
+  unfolding response_text
+  text_leave is w = rw is w
+
+  -- a refusal: `R` and its number
+  pub text_refused :
+      {why : Refusal}
+      → r ≡ Err why
+      → Wrote (answer (refusal_text (refusal_number why))) before told after
+      → Wrote (answer (response_text r buffer)) before told after
+  unfolding response_text
+  text_refused is w = rw is w
+
+-- the front of a buffer in which a reply's length lies has as many bytes
+pub reply_front :
+    (r : Result Response Refusal) (buffer : List ℕ) (cluster n : ℕ)
+    → ((c k : ℕ) → r ≡ Ok (response.Reply c k) → k ≤ length buffer)
+    → r ≡ Ok (response.Reply cluster n)
+    → n ≡ length (take n buffer)
+reply_front r buffer cluster n within is = sym (length-take-le n buffer (within cluster n is))
 
 -- ---- what `dispatch` told and left
 

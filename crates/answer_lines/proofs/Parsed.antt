@@ -3,7 +3,7 @@ use Rattle.std.specs.Prelude.{Option, None, Some, Result, Ok, Err}
 use Rattle.std.specs.Result.{result_unwrap_or}
 use Prim.Native.Nat.{ℕ, ◌≤◌}
 use native.Mathlib.Omega.{arith}
-use mathlib.Core.Path.{◌≡◌, refl, sym}
+use mathlib.Core.Path.{◌≡◌, refl, sym, ◌∙◌}
 use mathlib.Core.Bool.{Bool, true, false, cond}
 use mathlib.Core.List.{List}
 use lib.Dec.{leb}
@@ -92,46 +92,64 @@ never_full line (Some q) {before} why e h room l =
 
 -- ---- a line
 
-module _ (line : List ℕ) {before buffer : List ℕ} where
-  -- so what was read of it is told
-  not_refused :
-      {o : Option ParsedRequest} (r : Result (Option ParsedRequest) Refusal)
-      → length line ≤ 4096
+module _ (line : List ℕ) {before buffer : List ℕ} {r : Result (Option ParsedRequest) Refusal} (l : LineRead (request_in line) before (says r) buffer) where
+  module _ {q : ParsedRequest} (is : r ≡ Ok (Some q)) where
+    there : Stands (request_in line) q.cluster q.length buffer
+    there = stands (request_in line) q.cluster q.length (rw is at l)
+
+    -- the payload stands in the buffer
+    pub payload_within : q.length ≤ length buffer
+    payload_within = there.within
+
+    pub payload_long : q.length ≡ length (take q.length buffer)
+    payload_long = sym (length-take-le q.length buffer payload_within)
+
+    -- and its request is answered
+    pub line_heard :
+        (t : BindingTable) {v : BindingTable} {out later : List ℕ} {told : Outcome ℕ}
+        → Tells (heard ours t (record { cluster = q.cluster; payload = take q.length buffer })) 261 out told v later
+        → Tells (said ours t (whole line)) 261 out told v later
+    unfolding said option
+    line_heard t w = rw there.is w
+
+  -- there is none
+  pub line_unheard :
+      {t : BindingTable} {out later : List ℕ} {told : Outcome ℕ}
+      → r ≡ Ok None
+      → Wrote (answer QUESTION) out told later
+      → Tells (said ours t (whole line)) 261 out told t later
+  unfolding said option unheard
+  line_unheard is w = rw (no_request (request_in line) (rw is at l)) (record { wrote = w; table = refl; short = omega arith })
+
+  -- that there is no room does not happen
+  pub line_refused :
+      {t : BindingTable} {out later : List ℕ} {told : Outcome ℕ} {why : Refusal}
       → 2045 ≤ length before
-      → LineRead (request_in line) before (says r) buffer
-      → o ≡ result_unwrap_or r None
-      → r ≡ Ok o
-  not_refused (Ok p) h room l u = rw u refl
-  not_refused (Err why) h room l u = absurd (never_full line (request_in line) why refl h room l)
+      → length line ≤ 4096
+      → r ≡ Err why
+      → Tells (said ours t (whole line)) 261 out told t later
+  line_refused {why = why} room h is = absurd (never_full line (request_in line) why refl h room (rw is at l))
 
-  module _ (r : Result (Option ParsedRequest) Refusal) {o : Option ParsedRequest} (l : LineRead (request_in line) before (says r) buffer) (h : length line ≤ 4096) (room : 2045 ≤ length before) (u : o ≡ result_unwrap_or r None) where
-    read : LineRead (request_in line) before (says (Ok o)) buffer
-    read = rw (not_refused r h room l u) at l
+-- ---- a refusal taken for none
 
-    module _ {q : ParsedRequest} (is : o ≡ Some q) where
-      there : Stands (request_in line) q.cluster q.length buffer
-      there = stands (request_in line) q.cluster q.length (rw is at read)
+module _ (r : Result (Option ParsedRequest) Refusal) {o : Option ParsedRequest} (u : o ≡ result_unwrap_or r None) where
+  -- a request is one that was read
+  pub request_told : {q : ParsedRequest} → o ≡ Some q → r ≡ Ok (Some q)
+  request_told is = go r (sym is ∙ u)
+    where
+      go : {q : ParsedRequest} (r : Result (Option ParsedRequest) Refusal) → Some q ≡ result_unwrap_or r None → r ≡ Ok (Some q)
+      go (Ok p) e = rw e refl
+      go (Err why) e = cc
 
-      -- the payload stands in the buffer
-      pub payload_within : q.length ≤ length buffer
-      payload_within = there.within
+  module _ (line : List ℕ) {before buffer : List ℕ} (h : length line ≤ 4096) (room : 2045 ≤ length before) (l : LineRead (request_in line) before (says r) buffer) where
+    -- no line is refused where the longest has room: what was read is told
+    not_refused : r ≡ Ok o
+    not_refused = go r u l
+      where
+        go : (r : Result (Option ParsedRequest) Refusal) → o ≡ result_unwrap_or r None → LineRead (request_in line) before (says r) buffer → r ≡ Ok o
+        go (Ok p) u l = rw u refl
+        go (Err why) u l = absurd (never_full line (request_in line) why refl h room l)
 
-      pub payload_long : q.length ≡ length (take q.length buffer)
-      payload_long = sym (length-take-le q.length buffer payload_within)
-
-      -- and its request is answered
-      pub line_heard :
-          (t : BindingTable) {v : BindingTable} {out later : List ℕ} {told : Outcome ℕ}
-          → Tells (heard ours t (record { cluster = q.cluster; payload = take q.length buffer })) 261 out told v later
-          → Tells (said ours t (whole line)) 261 out told v later
-      unfolding said option
-      line_heard t w = rw there.is w
-
-    -- there is none
-    pub line_unheard :
-        {t : BindingTable} {out later : List ℕ} {told : Outcome ℕ}
-        → o ≡ None
-        → Wrote (answer QUESTION) out told later
-        → Tells (said ours t (whole line)) 261 out told t later
-    unfolding said option unheard
-    line_unheard is w = rw (no_request (request_in line) (rw is at read)) (record { wrote = w; table = refl; short = omega arith })
+    -- so none is none that was read
+    pub none_told : o ≡ None → r ≡ Ok None
+    none_told is = rw is at not_refused
