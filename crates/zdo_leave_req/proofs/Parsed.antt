@@ -1,5 +1,5 @@
 -- A leave request: an address or none, then flags by their masks. Assumes nothing.
-use Rattle.std.specs.Prelude.{Option, Ok}
+use Rattle.std.specs.Prelude.{Option, Some, None, Ok}
 use Prim.Native.Nat.{ℕ, ◌≤◌}
 use mathlib.Core.Path.{◌≡◌}
 use mathlib.Core.Bool.{not}
@@ -7,12 +7,24 @@ use mathlib.Core.List.{List}
 use lib.Bits.{bit_and}
 use lib.Dec.{eqb}
 use lib.ListN.{length}
+use borrow.Author.Tests.{ne_eqb}
 use Rattle.zigbee_types.specs.Bytes.{FieldRead}
+use Rattle.zigbee_types.specs.Addresses.{ieee_of}
 use Rattle.zigbee_types.specs.declared.IeeeAddress.{IeeeAddress}
 use Rattle.zigbee_types.proofs.Bits.{mask_tells}
 use Rattle.zigbee_types.proofs.Runs.{three_parse}
 use Rattle.zdo_requests.specs.Requests.{option_ieee, mgmt_leave_req_in}
 use Rattle.zigbee_types.specs.Answers.{says}
+
+-- an address of zero is none
+pub address_none : {n : ℕ} → n ≡ 0 → None ≡ option_ieee n
+unfolding option_ieee
+address_none e = rw e
+
+-- any other is one
+pub address_some : {n : ℕ} → (n ≡ 0 → ⊥) → Some (ieee_of n) ≡ option_ieee n
+unfolding option_ieee
+address_some e = rw (ne_eqb _ _ e)
 
 -- the flags are bits 6 and 7
 pub leave_read :
