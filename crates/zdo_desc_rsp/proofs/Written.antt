@@ -1,5 +1,5 @@
 -- Replies with a header, and what stands behind it. Assumes nothing.
-use Rattle.std.specs.Prelude.{Ok, Err}
+use Rattle.std.specs.Prelude.{Result, Ok, Err}
 use Prim.Native.Nat.{ℕ, ◌+◌, ◌-◌, ◌^◌, ◌≤◌, ◌<◌}
 use native.Mathlib.Omega.{arith}
 use mathlib.Core.Path.{◌≡◌}
@@ -10,7 +10,7 @@ use lib.Seq.{length-sets}
 use mir.Syntax.{w64}
 use mir.Val.{Fits}
 use borrow.Rule.Slice.PartMut.{mid_of, put_mid}
-use Rattle.zigbee_types.specs.Outcome.{answer, Wrote}
+use Rattle.zigbee_types.specs.Outcome.{answer, mapped, Wrote}
 use Rattle.zigbee_types.specs.Answers.{says}
 use Rattle.zigbee_types.specs.Bytes.{le, FieldPut}
 use Rattle.zigbee_types.specs.Layout.{Field, laid, size, FieldsPut}
@@ -44,6 +44,17 @@ module _ (seq status : ℕ) (a : ShortAddress) {s t : List ℕ} {m : ℕ} (p : F
   unfolding empty_rsp says header size
   empty_writes q h = run_writes (run_put_last p q) h
 
+-- where the writer of the later part told a length, the sum is one that the machine has
+pub whole_fits :
+    (m : ℕ) (r : Result ℕ Refusal) {n : ℕ} → ((k : ℕ) → says r ≡ answer k → m + k < 2 ^ 64) → r ≡ Ok n → Fits w64 (m + n)
+unfolding says
+whole_fits m r {n} small e = record { fits = small n (rw e) }
+
+-- and it is what is told of the whole
+pub whole_length : (m : ℕ) (r : Result ℕ Refusal) {n : ℕ} → r ≡ Ok n → says (Ok (m + n)) ≡ mapped (λ n. m + n) (says r)
+unfolding says mapped
+whole_length m r e = rw e
+
 -- a descriptor: refused where there is no room for it
 pub described_full :
     (seq : ℕ) (a : ShortAddress) (fs : List Field) (s : List ℕ)
@@ -51,6 +62,18 @@ pub described_full :
     → Wrote (answer (laid (header seq SUCCESS a ++ fs))) s (says (Err ShortBuffer)) s
 unfolding says header size
 described_full seq a fs s h = run_full (header seq SUCCESS a ++ fs) s (omega (arith, h))
+
+-- a length that the descriptor's writer tells is one that the machine has behind the header
+pub described_bounded :
+    (fs : List Field) {m : ℕ} {part v : List ℕ} (r : Result ℕ Refusal)
+    → m ≡ 4
+    → Wrote (answer (laid fs)) part (says r) v
+    → T (ltb (4 + size (widths fs)) (2 ^ 64))
+    → (n : ℕ) → says r ≡ answer n → m + n < 2 ^ 64
+described_bounded fs {m} r place w h n e =
+    let stands = wrote_bytes (rw e at w) in
+    let sum : m + n ≡ 4 + size (widths fs) = omega (arith, place, stands.long, laid_counted fs) in
+    rw sum (ltb→lt _ _ h)
 
 -- otherwise written, by a writer that was lent what is behind the header
 module _
