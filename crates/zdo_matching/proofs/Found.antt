@@ -31,15 +31,19 @@ use Rattle.zdo_matching.proofs.Filled.{Filled, filled_none, filled_within, fille
 -- ---- one record
 
 module _ (p : Pools) (e : EndpointDescriptor) (q : MatchDescReq) (payload before : List ℕ) (k : ℕ) (may : may_match p e q payload (length before) (answer k) ≡ true) where
-  checks : (leb k (length before) ≡ true) × (record_fits p e ≡ true)
+  checks : (leb k (length before) ≡ true) × (record_fits p e ≡ true) × (good_places q payload ≡ true)
   unfolding may_match
   checks =
-      let (front, _) = (and-eq-true_iff (leb k (length before) && record_fits p e) (good_places q payload)).0 may in
-      (and-eq-true_iff (leb k (length before)) (record_fits p e)).0 front
+      let (front, places) = (and-eq-true_iff (leb k (length before) && record_fits p e) (good_places q payload)).0 may in
+      let (within, fits) = (and-eq-true_iff (leb k (length before)) (record_fits p e)).0 front in
+      (within, fits, places)
 
   -- what a turn takes for granted
   pub may_fit : record_fits p e ≡ true
   may_fit = checks.1
+
+  pub may_read : good_places q payload ≡ true
+  may_read = checks.2
 
   may_stand : k ≤ length before
   may_stand = leb-true _ _ checks.0
