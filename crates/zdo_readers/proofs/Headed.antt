@@ -43,13 +43,13 @@ module _ (bytes : List ℕ) (h : ReplyHeader) (said : says (Ok h) ≡ header_in 
 
     -- with SUCCESS it is what is read from byte 4 on
     module _ (ok : h.status ≡ SUCCESS) where
-      described :
+      pub described_some :
           {d : Outcome D} {told : Outcome (DescriptorReply D)}
           → d ≡ read_in (take (length bytes - 4) (drop 4 bytes))
           → told ≡ mapped (with_descriptor h) d
           → told ≡ descriptor_reply_in read_in bytes
       unfolding descriptor_reply_in
-      described read t =
+      described_some read t =
           let yes : eqb h.status SUCCESS ≡ true = rw ok in
           headed _ (rw (yes, ← part_whole 4 bytes, ← read) t)
 
@@ -61,6 +61,6 @@ module _ (bytes : List ℕ) (h : ReplyHeader) (said : says (Ok h) ≡ header_in 
           → MatchResult q (λ d. IsOkAnd r (P d)) (λ e. r ≡ Err e)
           → says r ≡ descriptor_reply_in read_in bytes
       unfolding says mapped
-      described_made (Ok d) (Ok x) P read made p = described read (rw (made d x p))
+      described_made (Ok d) (Ok x) P read made p = described_some read (rw (made d x p))
       described_made (Ok d) (Err _) P read made p = absurd p
-      described_made (Err why) r P read made e = described read (rw e)
+      described_made (Err why) r P read made e = described_some read (rw e)
