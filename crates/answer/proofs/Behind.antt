@@ -35,6 +35,13 @@ pub told_ok : (w : Result ℕ Refusal) {n : ℕ} → w ≡ Ok n → says w ≡ a
 unfolding says
 told_ok w is = rw is refl
 
+-- that is within the buffer
+pub told_within :
+    (o : Outcome (List ℕ)) {before after : List ℕ} (w : Result ℕ Refusal) {n : ℕ} → Wrote o before (says w) after → w ≡ Ok n → n ≤ length after
+told_within o w {n} wrote is =
+    let inside = wrote_within o wrote in
+    rw inside.same (inside.most n (told_ok w is))
+
 -- a turn that has room for every text takes a character, where there is one
 pub turn_moves :
     (size at end : ℕ) (p : Pending) (chunk out : List ℕ) {t : BindingTable} {r : Turn} {line v : List ℕ}
