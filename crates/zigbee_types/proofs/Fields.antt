@@ -1,5 +1,5 @@
 -- Fields that are read and put: one byte, and two fields that stand one behind the other, over their widths. Assumes nothing.
-use Prim.Native.Nat.{ℕ, suc, ◌+◌, ◌*◌, ◌%◌, ◌^◌, ◌≤◌, ◌<◌}
+use Prim.Native.Nat.{ℕ, suc, ◌+◌, ◌*◌, ◌/◌, ◌%◌, ◌^◌, ◌≤◌, ◌<◌}
 use native.Mathlib.Nat.{add-zero, add-suc, suc-add, mod-eq_of_lt}
 use native.Mathlib.Omega.{arith}
 use mathlib.Core.Path.{◌≡◌, refl, sym}
@@ -8,7 +8,7 @@ use lib.ListN.{length, take, drop, get_or, set, drop_of_length-le}
 use lib.Seq.{sets, length-sets, sets-eq, drop-drop, get_or-drop, take-nil, take_at, drop_at, length-take-le}
 use Rattle.zigbee_types.specs.Bytes.{le, number, number_at, FieldRead, FieldPut}
 use Rattle.zigbee_types.specs.FieldLaws.{PutReadsBack}
-use Rattle.zigbee_types.proofs.Numbers.{le_counted, number_split, number_back}
+use Rattle.zigbee_types.proofs.Numbers.{le_counted, le_split, le_cut, number_split, number_back}
 
 -- ---- reading
 
@@ -66,6 +66,10 @@ pub sets_append : (s : List ℕ) (at : ℕ) (a b : List ℕ) → sets (sets s at
 sets_append s at [] b = rw add-zero
 sets_append s at (x ∷ a) b = rw (add-suc, ← suc-add) (sets_append (set s at x) (suc at) a b)
 
+-- so stores behind k bytes of a number are stores of those bytes and of what is behind
+pub sets_behind : (s : List ℕ) (at k x : ℕ) (b : List ℕ) → sets (sets s at (le k x)) (at + k) b ≡ sets s at (le k x ++ b)
+sets_behind s at k x b = rw (le_counted k x) at (sets_append s at (le k x) b)
+
 -- what was put leaves the length as it was
 pub put_counted : {k x at n : ℕ} {s t : List ℕ} → FieldPut k x s at n t → length t ≡ length s
 put_counted {k} {x} {at} {n} {s} p = rw p.left (length-sets s at (le k x))
@@ -74,6 +78,18 @@ put_counted {k} {x} {at} {n} {s} p = rw p.left (length-sets s at (le k x))
 pub put_byte : (s : List ℕ) (at : ℕ) {x : ℕ} → x < 256 → FieldPut 1 x s at (at + 1) (set s at x)
 unfolding le
 put_byte s at h = record { moved = refl; left = rw (mod-eq_of_lt h) }
+
+-- the low j bytes of x, and behind them the k bytes above, are its j + k bytes
+pub put_both :
+    (j k x : ℕ) {at m n : ℕ} {s t u : List ℕ}
+    → FieldPut j (x % 256 ^ j) s at m t
+    → FieldPut k (x / 256 ^ j) t m n u
+    → FieldPut (j + k) x s at n u
+put_both j k x p q =
+    record {
+      moved = omega (arith, p.moved, q.moved);
+      left = rw (q.left, p.left, p.moved, le_cut, le_split, sets_behind);
+    }
 
 -- what was put reads back
 pub put_back : PutReadsBack

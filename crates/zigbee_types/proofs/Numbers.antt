@@ -1,10 +1,10 @@
 -- The bytes of a number, and the number of bytes, each law over the number of bytes. Assumes nothing.
 use Prim.Native.Nat.{ℕ, zero, suc, ◌+◌, ◌*◌, ◌/◌, ◌%◌, ◌^◌, ◌<◌}
-use native.Mathlib.Nat.{zero-add, suc-add, mul-zero, mul_assoc, pow-succ', mod-one, mod_def, mul-div-le, div-div-eq-div-mul}
+use native.Mathlib.Nat.{zero-add, suc-add, mul-zero, mul_assoc, pow-succ', div-one, mod-one, mod_def, mul-div-le, div-div-eq-div-mul}
 use native.Mathlib.Omega.{arith}
 use mathlib.Core.Path.{◌≡◌, refl, ap}
 use mathlib.Core.Bool.{true, and-eq-true_iff}
-use mathlib.Core.List.{List, [], ◌∷◌}
+use mathlib.Core.List.{List, [], ◌∷◌, ◌++◌}
 use lib.Dec.{ltb}
 use lib.ListN.{take, drop}
 use lib.Seq.{take-nil}
@@ -35,6 +35,21 @@ pub le_bounded : BytesBounded
 unfolding le all
 le_bounded zero x = refl
 le_bounded (suc k) x = rw (lt-ltb (x % 256) 256 (omega arith)) (le_bounded k (x / 256))
+
+-- the bytes of the low part, then those of the rest
+pub le_split : (j k x : ℕ) → le (j + k) x ≡ le j x ++ le k (x / 256 ^ j)
+unfolding le
+le_split zero k x = rw (zero-add, div-one)
+le_split (suc j) k x = rw (suc-add, pow-succ', ← div-div-eq-div-mul, le_split j k (x / 256))
+
+-- what lies above the width leaves the bytes as they are
+pub le_cut : (k x : ℕ) → le k (x % 256 ^ k) ≡ le k x
+unfolding le
+le_cut zero x = refl
+le_cut (suc k) x =
+    let low : x % 256 ^ suc k % 256 ≡ x % 256 = rw (pow-succ', mod_byte) (omega arith) in
+    let high : x % 256 ^ suc k / 256 ≡ x / 256 % 256 ^ k = rw (pow-succ', mod_byte) (omega arith) in
+    rw (low, high, le_cut k (x / 256))
 
 -- ---- the number of bytes
 
