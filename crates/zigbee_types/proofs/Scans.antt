@@ -1,6 +1,6 @@
 -- Searches through a list: a step from the front, where the first element decides or what is behind it does; one more element at the
 -- end; and what a test of all says of one. And a test that is turned round. Assumes nothing.
-use Rattle.std.specs.Prelude.{Some}
+use Rattle.std.specs.Prelude.{Some, None}
 use Prim.Native.Nat.{ℕ, zero, suc}
 use mathlib.Core.Path.{◌≡◌, refl, sym, ◌∙◌}
 use mathlib.Core.Bool.{Bool, true, false, not, cond, and-eq-true_iff}
@@ -19,10 +19,34 @@ module _ {A : Type 0} (p : A → Bool) where
     unfolding any
     any_next t = rw (e, t)
 
+    pub all_here : p x ≡ false → all p xs ≡ false
+    unfolding all
+    all_here t = rw (e, t)
+
+    pub all_next : p x ≡ true → all p xs ≡ all p rest
+    unfolding all
+    all_next t = rw (e, t)
+
+    pub find_here : p x ≡ true → find p xs ≡ Some x
+    unfolding find
+    find_here t = rw (e, t)
+
+    pub find_next : p x ≡ false → find p xs ≡ find p rest
+    unfolding find
+    find_next t = rw (e, t)
+
   module _ {xs : List A} (e : xs ≡ []) where
     pub any_end : any p xs ≡ false
     unfolding any
     any_end = rw e
+
+    pub all_end : all p xs ≡ true
+    unfolding all
+    all_end = rw e
+
+    pub find_end : find p xs ≡ None
+    unfolding find
+    find_end = rw e
 
   -- of a list with one more element, those that pass
   pub filter_last : (xs : List A) (x : A) → filter p (xs ++ (x ∷ [])) ≡ filter p xs ++ filter p (x ∷ [])
