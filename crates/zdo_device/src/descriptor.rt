@@ -90,11 +90,7 @@ impl DeviceDescriptorConfig {
     pub fn good_tables(self, lent: Pools) -> bool
         ensures { result ≡ good_device (pools_of lent.entry) self }
     {
-        let count = self.endpoint_count;
-        if !good_sizes(count, lent.inputs.len(), lent.outputs.len()) {
-            return false;
-        }
-        self.endpoints[..count].iter().all(|ep| ep.fits(lent))
+        good_tables(&self, lent)
     }
 
     // An endpoint's part of the input pool or of the output pool, as the side says. (Added by document 01.) Empty where there is
@@ -118,6 +114,18 @@ impl DeviceDescriptorConfig {
             None => &inputs[..0],
         }
     }
+}
+
+// Whether a device's tables are good, with these pools (document 01, refusal 1). (By reference: a function that takes the device by value
+// copies it.)
+pub(crate) fn good_tables(device: &DeviceDescriptorConfig, lent: Pools) -> bool
+    ensures { result ≡ good_device (pools_of lent.entry) device.now }
+{
+    let count = device.endpoint_count;
+    if !good_sizes(count, lent.inputs.len(), lent.outputs.len()) {
+        return false;
+    }
+    device.endpoints[..count].iter().all(|ep| ep.fits(lent))
 }
 
 // One of the two pools.

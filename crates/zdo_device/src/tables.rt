@@ -3,7 +3,7 @@ ghost use Rattle.std.specs.Prelude.{◌≡◌, true};
 ghost use Rattle.zdo_device.specs.Tables.{record_fits, good_device, endpoint_of, clusters_of};
 ghost use Rattle.zdo_device.specs.Checked.{pools_of};
 
-use crate::descriptor::{DeviceDescriptorConfig, EndpointDescriptor, Pools, Side};
+use crate::descriptor::{DeviceDescriptorConfig, EndpointDescriptor, Pools, Side, good_tables};
 
 // Tables that were checked.
 #[derive(Clone, Copy)]
@@ -21,7 +21,7 @@ impl<'a> Tables<'a> {
         ensures found { is_some result ≡ good_device (pools_of lent.entry) device.now }
         ensures same { IfSome result (λ t. (t.device.now ≡ device.now) × (pools_of t.pools ≡ pools_of lent.entry)) }
     {
-        if !device.good_tables(lent) {
+        if !good_tables(device, lent) {
             return None;
         }
         Some(Tables {

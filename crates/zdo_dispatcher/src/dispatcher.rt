@@ -262,7 +262,7 @@ pub fn dispatch(
         },
         Err(why) => {
             let response = Err(why);
-            Responded { table, response }
+            return Responded { table, response };
         }
     }
 }

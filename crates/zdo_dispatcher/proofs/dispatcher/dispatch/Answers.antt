@@ -26,8 +26,8 @@ link_answer-requires-clause-in_bounds c = let was = taken_from _ _ _ _ c.in-Some
 pub returns-in-Asks : goal.returns-in-Asks
 returns-in-Asks c = let was = taken_from _ _ _ _ c.in-Some.ensures.same c.take-read.ensures in search laws
 
-pub returns-in-Answered : goal.returns-in-Answered
-returns-in-Answered c = let was = taken_from _ _ _ _ c.in-Some.ensures.same c.take-read.ensures in search (laws, c.well_formed.1.1.1.1.0)
+pub returns : goal.returns
+returns c = let was = taken_from _ _ _ _ c.in-Some.ensures.same c.take-read.ensures in search (laws, c.well_formed.1.1.1.1.0)
 
 pub returns-in-Err : goal.returns-in-Err
 returns-in-Err c = let was = taken_from _ _ _ _ c.in-Some.ensures.same c.take-read.ensures in search (laws, c.well_formed.1.1.1.1.0)
