@@ -71,11 +71,7 @@ impl DeviceDescriptorConfig {
     pub fn endpoint(self, endpoint: u8) -> Option<EndpointDescriptor>
         ensures { result ≡ endpoint_record self endpoint }
     {
-        let count = self.endpoint_count.min(RECORDS);
-        self.endpoints[..count]
-            .iter()
-            .find(|ep| ep.endpoint == endpoint)
-            .copied()
+        find_endpoint(&self, endpoint)
     }
 
     // Whether the device implements the given endpoint.
@@ -116,8 +112,22 @@ impl DeviceDescriptorConfig {
     }
 }
 
-// Whether a device's tables are good, with these pools (document 01, refusal 1). (By reference: a function that takes the device by value
+// The first record in use that has a number, or none. (By reference, here and in the next: a function that takes the device by value
 // copies it.)
+pub(crate) fn find_endpoint(
+    device: &DeviceDescriptorConfig,
+    endpoint: u8,
+) -> Option<EndpointDescriptor>
+    ensures { result ≡ endpoint_record device.now endpoint }
+{
+    let count = device.endpoint_count.min(RECORDS);
+    device.endpoints[..count]
+        .iter()
+        .find(|ep| ep.endpoint == endpoint)
+        .copied()
+}
+
+// Whether a device's tables are good, with these pools (document 01, refusal 1).
 pub(crate) fn good_tables(device: &DeviceDescriptorConfig, lent: Pools) -> bool
     ensures { result ≡ good_device (pools_of lent.entry) device.now }
 {

@@ -1,9 +1,11 @@
 // A device with the two pools that its records point into, where they are good together (document 01, "Device tables and sizes").
 ghost use Rattle.std.specs.Prelude.{◌≡◌, true};
-ghost use Rattle.zdo_device.specs.Tables.{record_fits, good_device, endpoint_of, clusters_of};
+ghost use Rattle.zdo_device.specs.Tables.{endpoint_record, supports_endpoint, record_fits, good_device, endpoint_of, clusters_of};
 ghost use Rattle.zdo_device.specs.Checked.{pools_of};
 
-use crate::descriptor::{DeviceDescriptorConfig, EndpointDescriptor, Pools, Side, good_tables};
+use crate::descriptor::{
+    DeviceDescriptorConfig, EndpointDescriptor, Pools, Side, find_endpoint, good_tables,
+};
 
 // Tables that were checked.
 #[derive(Clone, Copy)]
@@ -28,6 +30,21 @@ impl<'a> Tables<'a> {
             device,
             pools: lent,
         })
+    }
+
+    // The first record in use that has a number, or none.
+    pub fn endpoint(self, endpoint: u8) -> Option<EndpointDescriptor>
+        ensures { result ≡ endpoint_record self.entry.device.now endpoint }
+    {
+        find_endpoint(self.device, endpoint)
+    }
+
+    // Whether the device implements the given endpoint.
+    #[tactic(auto, using(crate::proofs::Clusters::supports_found))]
+    pub fn supports_endpoint(self, endpoint: u8) -> bool
+        ensures { result ≡ supports_endpoint self.entry.device.now endpoint }
+    {
+        self.endpoint(endpoint).is_some()
     }
 }
 

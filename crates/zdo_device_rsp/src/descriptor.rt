@@ -86,7 +86,7 @@ pub fn simple_desc_rsp_checked(
     ensures { Wrote (simple_rsp_of seq nwk_addr (pools_of tables.entry.pools) tables.entry.device.now endpoint) out.old (says result) out.new }
 {
     let pools = tables.pools;
-    let found = tables.device.endpoint(endpoint);
+    let found = tables.endpoint(endpoint);
     match found {
         Some(ep) => described_rsp(Record { ep, pools }, seq, nwk_addr, out),
         None => empty_rsp(seq, STATUS_NOT_ACTIVE, nwk_addr, out),

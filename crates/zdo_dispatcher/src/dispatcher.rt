@@ -71,17 +71,13 @@ enum Link {
 }
 
 // Success where a request's source is ours, its address first and then its endpoint; or the status that says what is not.
-fn source_status(
-    device: DeviceDescriptorConfig,
-    ieee_addr: IeeeAddress,
-    request: BindReq,
-) -> BindStatus
-    ensures { bind_code result ≡ source_status device ieee_addr request }
+fn source_status(tables: Tables, ieee_addr: IeeeAddress, request: BindReq) -> BindStatus
+    ensures { bind_code result ≡ source_status tables.entry.device.now ieee_addr request }
 {
     if request.src_address != ieee_addr {
         return BindStatus::NotSupported;
     }
-    if !device.supports_endpoint(request.src_endpoint) {
+    if !tables.supports_endpoint(request.src_endpoint) {
         return BindStatus::InvalidEndpoint;
     }
     BindStatus::Success
@@ -123,20 +119,20 @@ enum Taken {
 // anything is stored.
 fn take_link(
     link: Link,
-    device: DeviceDescriptorConfig,
+    tables: Tables,
     ieee_addr: IeeeAddress,
     cluster: u16,
     payload: &[u8],
     out: &mut [u8],
 ) -> Result<Taken, Refusal>
     requires { cluster < 2 ^ 15 }
-    ensures { TakenTo (link_with link device ieee_addr (asking cluster payload.now out.old)) cluster result out.old out.new }
+    ensures { TakenTo (link_with link tables.entry.device.now ieee_addr (asking cluster payload.now out.old)) cluster result out.old out.new }
 {
     let request = parse_bind_req(payload)?;
     if out.len() < 2 {
         return Err(Refusal::ShortBuffer);
     }
-    let source = source_status(device, ieee_addr, request);
+    let source = source_status(tables, ieee_addr, request);
     if source.code() != STATUS_SUCCESS {
         let response = told(cluster, bind_rsp(request.seq, source, out))?;
         return Ok(Taken::Answered(response));
@@ -199,11 +195,10 @@ fn take(host: Host, cluster: u16, payload: &[u8], out: &mut [u8]) -> Result<Take
     ensures { TakenTo (answered_with (host_of host.entry) (asking cluster payload.now out.old)) cluster result out.old out.new }
 {
     let tables = host.tables;
-    let device = tables.device;
     let ieee_addr = host.ieee_addr;
     match cluster {
-        BIND_REQ => take_link(Link::Bind, *device, ieee_addr, cluster, payload, out),
-        UNBIND_REQ => take_link(Link::Unbind, *device, ieee_addr, cluster, payload, out),
+        BIND_REQ => take_link(Link::Bind, tables, ieee_addr, cluster, payload, out),
+        UNBIND_REQ => take_link(Link::Unbind, tables, ieee_addr, cluster, payload, out),
         MGMT_LEAVE_REQ => {
             let response = on_leave(payload)?;
             Ok(Taken::Answered(response))

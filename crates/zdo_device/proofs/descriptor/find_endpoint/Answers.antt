@@ -1,4 +1,4 @@
--- `DeviceDescriptorConfig::endpoint` meets its contract: the chain finds the first of the records in use. Assumes nothing.
+-- `find_endpoint` meets its contract: the chain finds the first of the records in use. Assumes nothing.
 use Rattle.std.proofs.Common.{rules}
 use borrow.Author.Tests.{tests}
 use Rattle.std.proofs.lemmas.Iterator.{YieldsList-from_slice}
@@ -10,11 +10,11 @@ use mathlib.Core.Bool.{Bool}
 use Rattle.zdo_device.specs.declared.descriptor.EndpointDescriptor.{EndpointDescriptor}
 use Rattle.zigbee_types.proofs.Elements.{length_mapped}
 use Rattle.zdo_device.proofs.Records.{sought}
-use Rattle.zdo_device.proofs.descriptor.DeviceDescriptorConfig.endpoint.Goals as goal
+use Rattle.zdo_device.proofs.descriptor.find_endpoint.Goals as goal
 
 pub returns : goal.returns
 returns c =
     let has : EndpointDescriptor → Bool = λ e. eqb e.endpoint c.args.endpoint in
-    let from = YieldsList-from_slice (take c.min-count.result c.args.self.endpoints) cc in
+    let from = YieldsList-from_slice (take c.min-count.result c.args.device.now.endpoints) cc in
     let found = c.copied.ensures ∙ find_from_yields_List has _ _ c.find.result c.find.ensures.ran from (λ x b q k. search (rules, tests)) in
     search (rules, length_mapped, sought)
