@@ -38,18 +38,25 @@ pub(crate) fn which(line: &[u8], questions: &[u8]) -> Option<usize> {
 }
 
 // Whether a line asks a question: its name, an argument of each of its kinds, and nothing else. The question is written as its
-// name and the letters of its kinds, each after a space: `write_u16 d 2 b`.
+// name and the letters of its kinds, each after a space: `write_u16 d 2 b`. (Word by word, up to the first that is not of its kind.)
 pub(crate) fn asks(line: &[u8], question: &[u8]) -> bool {
-    let mut words = line.split(is_space);
     let mut kinds = question.split(is_space);
-    words.next() == kinds.next()
-        && arguments(line) == arguments(question)
-        && words.zip(kinds).all(|(word, kind)| is_of(word, kind))
+    if !kinds.next().is_some_and(|name| is_named(line, name)) {
+        return false;
+    }
+    let mut words = line.split(is_space).skip(1);
+    for kind in kinds {
+        if !words.next().is_some_and(|word| is_of(word, kind)) {
+            return false;
+        }
+    }
+    words.next().is_none()
 }
 
-// Whether the first word of a line is this name.
+// Whether the first word of a line is this name. (What stands behind the name is looked at first: few lines have a space there. The
+// line's first word is not walked: it may be long.)
 pub(crate) fn is_named(line: &[u8], name: &[u8]) -> bool {
-    word_of(line, 0) == name
+    line.get(name.len()).is_none_or(is_space) && line.starts_with(name)
 }
 
 // Whether a character stands between two words.
