@@ -4,7 +4,6 @@ use crate::words::{u8_at, u16_at};
 use crate::{links, words};
 use aps_binding::binding::Binding;
 use std::io;
-use std::io::Write;
 use zigbee_types::{GroupAddress, IeeeAddress};
 
 // Puts the answer to a question about entries, or hands the line on.
@@ -78,7 +77,7 @@ fn put_group(entry: Binding, text: &mut Text) -> io::Result<()> {
         return text.unknown();
     }
     put_source(entry, text)?;
-    write!(text, "{:04X}", entry.dst_group.0)
+    text.hex(&entry.dst_group.0.to_be_bytes())
 }
 
 // Puts an entry to a device, or `?` where it has a group too.
@@ -87,14 +86,12 @@ fn put_device(entry: Binding, text: &mut Text) -> io::Result<()> {
         return text.unknown();
     }
     put_source(entry, text)?;
-    write!(text, "{:016X}{:02X}", entry.dst_ieee.0, entry.dst_endpoint)
+    text.hex(&entry.dst_ieee.0.to_be_bytes())?;
+    text.hex(&[entry.dst_endpoint])
 }
 
 // Puts the fields that stand before an entry's destination.
 fn put_source(entry: Binding, text: &mut Text) -> io::Result<()> {
-    write!(
-        text,
-        "{:02X}{:02X}{:04X}",
-        entry.dst_addr_mode, entry.src_endpoint, entry.cluster_id
-    )
+    text.hex(&[entry.dst_addr_mode, entry.src_endpoint])?;
+    text.hex(&entry.cluster_id.to_be_bytes())
 }

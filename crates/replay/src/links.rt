@@ -96,7 +96,7 @@ fn put_status(status: Result<(), BindingError>, text: &mut Text) -> io::Result<(
         Err(BindingError::TableFull) => BindStatus::TableFull,
         Err(BindingError::Refused(_)) => return text.refused(),
     };
-    write!(text, "{:02X}", status.code())
+    text.hex(&[status.code()])
 }
 
 // Puts a table, after a space: how many entries it holds, and each of them.

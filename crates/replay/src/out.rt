@@ -1,5 +1,5 @@
 // The answer to a question, on its way to the standard output.
-ghost use Rattle.std.specs.Prelude.{◌≤◌};
+ghost use Rattle.std.specs.Prelude.{◌≡◌, ◌<◌, ◌≤◌, OnOk};
 
 use crate::words;
 use std::io;
@@ -8,6 +8,12 @@ use zigbee_types::Refusal;
 
 // The most characters of an answer that are not written out yet.
 const ROOM: usize = 256;
+
+// Where so many wait, or more, all are written out before the next. So there is always room for the two digits of a byte.
+const FULL: usize = 254;
+
+// The digits of a number in hexadecimal.
+const DIGITS: [u8; 16] = *b"0123456789ABCDEF";
 
 // The characters of an answer that are not written out yet: they stand at the front of the array, and are so many. (Not the library's
 // `BufWriter`, which has its buffer on the heap.)
@@ -20,12 +26,10 @@ pub(crate) struct Text {
 }
 
 impl Write for Text {
-    // Takes as many characters as there is room for. Where there is none, all are written out first.
+    // Takes as many characters as may wait. Where no more may, all are written out first.
     fn write(&mut self, characters: &[u8]) -> io::Result<usize> {
-        if self.count == ROOM {
-            self.flush()?;
-        }
-        let room = &mut self.characters[self.count..];
+        self.make_room()?;
+        let room = &mut self.characters[self.count..FULL];
         let count = characters.len().min(room.len());
         room[..count].copy_from_slice(&characters[..count]);
         self.count += count;
@@ -33,7 +37,9 @@ impl Write for Text {
     }
 
     // Writes out all characters.
-    fn flush(&mut self) -> io::Result<()> {
+    fn flush(&mut self) -> io::Result<()>
+        ensures { OnOk result (self.new.count ≡ 0) }
+    {
         self.stdout.write_all(&self.characters[..self.count])?;
         self.count = 0;
         Ok(())
@@ -48,6 +54,16 @@ impl Text {
             characters: [0u8; ROOM],
             count: 0,
         }
+    }
+
+    // Writes out all characters where no more may wait.
+    fn make_room(&mut self) -> io::Result<()>
+        ensures { OnOk result (self.new.count < 254) }
+    {
+        if self.count < FULL {
+            return Ok(());
+        }
+        self.flush()
     }
 
     // Puts `?`, for a line that is no question that is known.
@@ -75,8 +91,16 @@ impl Text {
         if bytes.is_empty() {
             return write!(self, "-");
         }
+        self.hex(bytes)
+    }
+
+    // Puts bytes in hexadecimal, two digits for each. The two are never written out apart, as the digits of a format may be.
+    pub(crate) fn hex(&mut self, bytes: &[u8]) -> io::Result<()> {
         for byte in bytes {
-            write!(self, "{byte:02X}")?;
+            self.make_room()?;
+            self.characters[self.count] = DIGITS[usize::from(*byte / 16)];
+            self.characters[self.count + 1] = DIGITS[usize::from(*byte % 16)];
+            self.count += 2;
         }
         Ok(())
     }

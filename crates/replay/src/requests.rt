@@ -100,7 +100,7 @@ fn put_list(bytes: &[u8], list: Places, text: &mut Text) -> io::Result<()> {
             return text.unknown();
         }
         let cluster = u16::read(bytes, place);
-        write!(text, "{:04X}", cluster.value)?;
+        text.hex(&cluster.value.to_be_bytes())?;
         place = cluster.next;
     }
     Ok(())

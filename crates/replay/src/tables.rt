@@ -110,7 +110,7 @@ fn put_clusters(clusters: &[u16], text: &mut Text) -> io::Result<()> {
     }
     write!(text, " ")?;
     for cluster in clusters {
-        write!(text, "{cluster:04X}")?;
+        text.hex(&cluster.to_be_bytes())?;
     }
     Ok(())
 }
