@@ -1,5 +1,5 @@
 // The questions about device tables (oracle/README.md, "Device tables"). TABLES are three words: CLUSTERS CLUSTERS RECORDS.
-ghost use Rattle.std.specs.Prelude.{◌≤◌};
+ghost use Rattle.std.specs.Prelude.{◌*◌, ◌≤◌, length};
 
 use crate::out::Text;
 use crate::words::{u8_at, u16_at};
@@ -251,7 +251,9 @@ fn records_of(tables: Tables<'_>, endpoint: u8, profile_id: u16) -> [EndpointDes
 }
 
 // How many records the tables have.
-fn count_of(tables: Tables<'_>) -> usize {
+fn count_of(tables: Tables<'_>) -> usize
+    ensures { result * 28 ≤ length tables.entry.records.now }
+{
     tables.records.len() / words::RECORD
 }
 

@@ -17,7 +17,7 @@
 //     T            endpoint records
 //     M            a server mask, or `-` for none
 // What reads a word takes any word: one of another kind gives some number, or some bytes.
-ghost use Rattle.std.specs.Prelude.{◌^◌, ◌<◌, ◌≤◌};
+ghost use Rattle.std.specs.Prelude.{◌^◌, ◌<◌, ◌≤◌, length};
 
 use crate::values::{Named, is_value};
 use node_descriptor::LogicalType;
@@ -197,17 +197,23 @@ pub(crate) fn u16_in(line: &[u8], word: usize) -> u16 {
 }
 
 // Puts the bytes in a word of a line at the front of a slice, as many as it has room for, and answers that front.
-pub(crate) fn bytes_in<'a>(line: &[u8], word: usize, space: &'a mut [u8]) -> &'a mut [u8] {
+pub(crate) fn bytes_in<'a>(line: &[u8], word: usize, space: &'a mut [u8]) -> &'a mut [u8]
+    ensures { length result.now ≤ length space.old }
+{
     items_in(word_of(line, word), 2, |digits| u8_at(digits, 0), space)
 }
 
 // The same for the numbers of the named values in a word of a line, of names and of reserved values alike.
-pub(crate) fn numbers_in<'a>(line: &[u8], word: usize, space: &'a mut [u8]) -> &'a mut [u8] {
+pub(crate) fn numbers_in<'a>(line: &[u8], word: usize, space: &'a mut [u8]) -> &'a mut [u8]
+    ensures { length result.now ≤ length space.old }
+{
     items_in(word_of(line, word), 4, |digits| u8_at(digits, 1), space)
 }
 
 // The same for the clusters in a word of a line.
-pub(crate) fn clusters_in<'a>(line: &[u8], word: usize, space: &'a mut [u16]) -> &'a mut [u16] {
+pub(crate) fn clusters_in<'a>(line: &[u8], word: usize, space: &'a mut [u16]) -> &'a mut [u16]
+    ensures { length result.now ≤ length space.old }
+{
     items_in(word_of(line, word), 4, |digits| u16_at(digits, 0), space)
 }
 
@@ -221,6 +227,7 @@ pub(crate) fn items_in<'a, T: Copy, F: Fn(&[u8]) -> T>(
 ) -> &'a mut [T]
     requires some { 0 < digits }
     requires reads { F.IsAlwaysCallable read }
+    ensures { length result.now ≤ length space.old }
 {
     let items = word.chunks_exact(digits);
     let count = items.len().min(space.len());
