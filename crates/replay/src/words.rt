@@ -123,7 +123,10 @@ fn is_named_value<T: Named>(word: &[u8]) -> bool {
 
 // Whether a word says power sources: four digits for each, or `-` for none.
 fn is_sources(word: &[u8]) -> bool {
-    is_list(word, 4) && word.chunks_exact(4).all(is_named_value::<PowerSource>)
+    is_list(word, 4)
+        && word
+            .chunks_exact(4)
+            .all(|digits| is_value::<PowerSource>(u16_at(digits, 0)))
 }
 
 // Whether a word says a node: 32 digits, a logical type in the first four, and the two flags behind it each 0 or 1.
