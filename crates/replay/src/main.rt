@@ -49,12 +49,12 @@ impl Line {
         }
     }
 
-    // Puts a character behind the others.
-    fn put(&mut self, character: u8) {
-        if self.count < LINE + 1 {
-            self.characters[self.count] = character;
-            self.count += 1;
-        }
+    // Puts characters behind the others.
+    fn put(&mut self, characters: &[u8]) {
+        let room = &mut self.characters[self.count..];
+        let count = characters.len().min(room.len());
+        room[..count].copy_from_slice(&characters[..count]);
+        self.count += count;
     }
 
     // Writes the answer to the line, and a line feed, and begins the next.
@@ -77,12 +77,13 @@ fn answer(line: &[u8], text: &mut Text) -> io::Result<()> {
 
 // Goes on with the line, and writes the answers to all lines that end in the input.
 fn take(input: &[u8], line: &mut Line, text: &mut Text) -> io::Result<()> {
-    for character in input {
-        if *character == b'\n' {
-            line.end(text)?;
-        } else {
-            line.put(*character);
-        }
+    let mut parts = input.split(|character| *character == b'\n');
+    if let Some(first) = parts.next() {
+        line.put(first);
+    }
+    for part in parts {
+        line.end(text)?;
+        line.put(part);
     }
     Ok(())
 }
