@@ -17,7 +17,7 @@
 //     T            endpoint records
 //     M            a server mask, or `-` for none
 // What reads a word takes any word: one of another kind gives some number, or some bytes.
-ghost use Rattle.std.specs.Prelude.{◌^◌, ◌<◌, ◌≤◌, length};
+ghost use Rattle.std.specs.Prelude.{◌^◌, ◌<◌, ◌≤◌, ◌≡◌, length, eqb};
 
 use crate::values::{Named, is_value};
 use node_descriptor::LogicalType;
@@ -60,7 +60,9 @@ pub(crate) fn is_named(line: &[u8], name: &[u8]) -> bool {
 }
 
 // Whether a character stands between two words.
-pub(crate) fn is_space(character: &u8) -> bool {
+pub(crate) fn is_space(character: &u8) -> bool
+    ensures { result ≡ eqb character.now 32 }
+{
     *character == b' '
 }
 
