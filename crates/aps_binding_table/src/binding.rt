@@ -46,6 +46,8 @@ pub struct Linked {
 
 // Create a binding link (2.2.4.3.1). An entry already held is success, in a full table too. The search stands here, and the answer is
 // made in one place, since a table is copied for each function that it is handed to and for each way out.
+// (Inlined, as the next is, for the same reason.)
+#[inline(always)]
 pub fn create_binding_link(mut table: BindingTable, binding: Binding) -> Linked
     ensures { Leaves (create_binding_link table binding) table (link_says result.status) result.table }
 {
@@ -67,6 +69,7 @@ pub fn create_binding_link(mut table: BindingTable, binding: Binding) -> Linked
 
 // Remove a binding link (2.2.4.3.3), in the same form. The first equal entry goes: those behind it move down by one, so that they keep
 // their order, and the place that is freed is unused.
+#[inline(always)]
 pub fn remove_binding_link(mut table: BindingTable, binding: Binding) -> Linked
     ensures { Leaves (remove_binding_link table binding) table (link_says result.status) result.table }
 {
