@@ -1,5 +1,5 @@
 -- Characters of a chunk, taken one by one. Assumes nothing.
-use Prim.Native.Nat.{ℕ, suc, ◌+◌, ◌<◌}
+use Prim.Native.Nat.{ℕ, suc, ◌+◌, ◌≤◌, ◌<◌}
 use native.Mathlib.Numerals.{add-one}
 use native.Mathlib.Omega.{arith}
 use mathlib.Core.Path.{◌≡◌, refl, ◌∙◌}
@@ -73,20 +73,28 @@ module _ {p q : Pending} {chars : List ℕ} {i : ℕ} (g : Going p chars i q) wh
         })
 
   -- there is no next
-  pub going_end :
+  pub going_past :
       {whole : List ℕ} (at : ℕ)
       → chars ≡ whole
-      → i ≡ length chars
-      → Splits (split p whole) at (record { splitter = record { count = q.count }; at = at + length chars; found = Nothing }) q.buffer
+      → length chars ≤ i
+      → Splits (split p whole) at (record { splitter = record { count = q.count }; at = at + i; found = Nothing }) q.buffer
   unfolding split
-  going_end at all e =
-      let none : drop i chars ≡ [] = drop_of_length-le chars (omega arith) in
+  going_past at all h =
+      let none : drop i chars ≡ [] = drop_of_length-le chars h in
       rw (← all) (record {
         told = rw (g.found, none);
         kept = rw (g.rest, none);
         moved = rw (g.taken, none) (omega arith);
         left = rw (g.rest, none);
       })
+
+  -- all were taken
+  pub going_end :
+      {whole : List ℕ} (at : ℕ)
+      → chars ≡ whole
+      → i ≡ length chars
+      → Splits (split p whole) at (record { splitter = record { count = q.count }; at = at + length chars; found = Nothing }) q.buffer
+  going_end at all e = rw e at (going_past at all (omega arith))
 
 -- ---- for whoever goes on until a chunk is used up
 
